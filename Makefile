@@ -1,0 +1,4 @@
+# The commands of README.md.
+.PHONY: test
+test:
+	rt ci

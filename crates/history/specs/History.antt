@@ -1,0 +1,95 @@
+-- Sequences of events over the rules: what an accepted command's life is, and what a turn is (the mission's demands 2 and 3).
+--
+--   Past                := a state with its past. A command's serial number is its place in the roll of those accepted
+--   begin s             := no event yet
+--   advance h e         := one event more
+--   play h es           := the events es, one after the other
+--   after p es          := the events es from a fresh table under the policy p
+--   accepted s e        := the task that the event lets in, as a list of one or none
+--   inTable h k, hasEnded h k  := how often the command with serial number k is in the table, and has ended
+--   isTurn s e          := the event is a turn
+--   turns h es          := how many of the events es are turns
+use Prim.Native.Nat.{ℕ, suc, _+_}
+use mathlib.Core.Bool.{Bool, true, false, _&&_}
+use mathlib.Core.List.{List, [], _∷_, _++_}
+use lib.Dec.{eqb}
+use lib.ListN.{length}
+use Rattle.laws.specs.Lists.{one-if, count}
+use Rattle.history.specs.Types.{Task, Entry, Finish, Function, Happening, Event, Command, Completion, Management, Condition, Policy, Ended, Ruling, Answer, Done, BadTable, BadReport, BadEvent, NexusAboveSeven, NoSuchTask, NotEnabled, EndedAtEntry, Rejected, BadPolicy}
+use Rattle.rules.specs.Tasks.{isNamed}
+use Rattle.rules.specs.Rulings.{State, isClear, turn, fresh, kept, lost, fatesOf, joinsOf, ruled, reportOf}
+use Rattle.rules.specs.Rules.{ruling, answer}
+
+pub record Past : Type 0 where
+  pub state : State
+  -- the task that each accepted command came in as
+  pub roll : List Task
+  -- the serial numbers of the tasks in the table, in the table's order
+  pub present : List ℕ
+  -- the serial numbers of those that ended, in the order of their ends
+  pub ended : List ℕ
+  -- all reports, one behind the other
+  pub log : List Ended
+
+abbrev pub begin : State → Past
+begin s = record { state = s; roll = []; present = []; ended = []; log = [] }
+
+abbrev pub serialsFrom : ℕ → List Task → List ℕ
+serialsFrom n [] = []
+serialsFrom n (t ∷ ts) = n ∷ serialsFrom (suc n) ts
+
+-- the serial numbers share the fates of the tasks
+abbrev pub advanceBy : Past → Ruling → Past
+advanceBy h r =
+    record {
+      state = ruled (h .state) r;
+      roll = h .roll ++ joinsOf r;
+      present = kept (fatesOf (h .state) r) (h .present) ++ serialsFrom (length (h .roll)) (joinsOf r);
+      ended = h .ended ++ lost (fatesOf (h .state) r) (h .present);
+      log = h .log ++ reportOf (h .state) r;
+    }
+
+unfoldable pub advance : Past → Event → Past
+advance h e = advanceBy h (ruling (h .state) e)
+
+abbrev pub play : Past → List Event → Past
+play h [] = h
+play h (e ∷ es) = play (advance h e) es
+
+abbrev pub after : Policy → List Event → Past
+after p es = play (begin (fresh p)) es
+
+abbrev pub accepted : State → Event → List Task
+accepted s e = joinsOf (ruling s e)
+
+abbrev pub inTable : Past → ℕ → ℕ
+inTable h k = count (eqb k) (h .present)
+
+abbrev pub hasEnded : Past → ℕ → ℕ
+hasEnded h k = count (eqb k) (h .ended)
+
+abbrev pub isDone : Answer → Bool
+isDone Done = true
+isDone BadTable = false
+isDone BadReport = false
+isDone BadEvent = false
+isDone NexusAboveSeven = false
+isDone NoSuchTask = false
+isDone NotEnabled = false
+isDone (EndedAtEntry st se) = false
+isDone Rejected = false
+isDone BadPolicy = false
+
+-- "A turn is an accepted completion of the task that the turn rule names, with no ACA in effect before it." (mission, 3), by the answer it got
+abbrev pub turnBy : State → Event → Answer → Bool
+turnBy s (Command c) a = false
+turnBy s (Completion n g f) a = isClear (s .header .aca) && isNamed n g (turn s) && isDone a
+turnBy s (Management n f) a = false
+turnBy s (Condition c) a = false
+
+abbrev pub isTurn : State → Event → Bool
+isTurn s e = turnBy s e (answer s e)
+
+abbrev pub turns : Past → List Event → ℕ
+turns h [] = 0
+turns h (e ∷ es) = one-if (isTurn (h .state) e) + turns (advance h e) es

@@ -1,0 +1,67 @@
+-- Laws of `any`, `count`, `first` and `map`.
+use Prim.Native.Nat.{ℕ, suc, _+_}
+use mathlib.Core.Bool.{Bool, true, false, cond, _||_}
+use mathlib.Core.Path.{_≡_, refl, ap, sym, _∙_}
+use mathlib.Core.List.{List, [], _∷_, _++_, map}
+use mathlib.Core.Option.{Option, none, some}
+use native.Mathlib.Omega.{arith}
+use Rattle.laws.specs.Lists.{one-if, any, count, first}
+use Rattle.laws.proofs.Bools.{or-false, or-on, or-true, none-some, split}
+
+module _ {A : Type 0} where
+  pub count-append : (p : A → Bool) (xs ys : List A) → count p (xs ++ ys) ≡ count p xs + count p ys
+  count-append p [] ys = omega arith
+  count-append p (x ∷ xs) ys = omega (arith, count-append p xs ys)
+
+  pub any-append : (p : A → Bool) (xs ys : List A) → any p xs ≡ false → any p (xs ++ ys) ≡ any p ys
+  any-append p [] ys e = refl
+  any-append p (x ∷ xs) ys e = rw (or-false (p x) (any p xs) e .0) (any-append p xs ys (or-false (p x) (any p xs) e .1))
+
+  pub any-suffix : (p : A → Bool) (xs ys : List A) → any p (xs ++ ys) ≡ false → any p ys ≡ false
+  any-suffix p [] ys e = e
+  any-suffix p (x ∷ xs) ys e = any-suffix p xs ys (or-false (p x) _ e .1)
+
+  pub any-less : (p q : A → Bool) (xs : List A) → ((x : A) → p x ≡ false → q x ≡ false) → any p xs ≡ false → any q xs ≡ false
+  any-less p q [] h e = refl
+  any-less p q (x ∷ xs) h e = let o = or-false (p x) (any p xs) e in rw (h x (o .0)) (any-less p q xs h (o .1))
+
+  pub any-never : (q : A → Bool) (xs : List A) → ((x : A) → q x ≡ false) → any q xs ≡ false
+  any-never q [] h = refl
+  any-never q (x ∷ xs) h = rw (h x) (any-never q xs h)
+
+  -- the first that passes, found at the head or further on
+  pub first-cases {ℓ} :
+      {P : Type ℓ} (p : A → Bool) (x : A) (xs : List A) (y : A) → first p (x ∷ xs) ≡ some y
+      → (p x ≡ true → x ≡ y → P) → (p x ≡ false → first p xs ≡ some y → P) → P
+  first-cases {P = P} p x xs y e f g = go (p x) refl e
+    where
+      go : (b : Bool) → p x ≡ b → cond b (some x) (first p xs) ≡ some y → P
+      go true q h = f q (cc)
+      go false q h = g q h
+
+  pub first-passes : (p : A → Bool) (xs : List A) (y : A) → first p xs ≡ some y → p y ≡ true
+  first-passes p [] y e = cc
+  first-passes p (x ∷ xs) y e = first-cases p x xs y e (λ h q. rw q at h) (λ h q. first-passes p xs y q)
+
+  -- what is found is there
+  pub first-any : (p q : A → Bool) (xs : List A) (y : A) → first p xs ≡ some y → q y ≡ true → any q xs ≡ true
+  first-any p q [] y e h = none-some y e
+  first-any p q (x ∷ xs) y e h =
+      first-cases p x xs y e (λ a b. rw (b, h)) (λ a b. rw (first-any p q xs y b h) (or-on (q x)))
+
+  pub first-append :
+      {P : Type 0} (p : A → Bool) (xs ys : List A) (y : A) → first p (xs ++ ys) ≡ some y
+      → (first p xs ≡ some y → P) → (any p xs ≡ false → first p ys ≡ some y → P) → P
+  first-append p [] ys y h f g = g refl h
+  first-append p (x ∷ xs) ys y h f g =
+      first-cases p x (xs ++ ys) y h (λ a b. f (rw (a, b)))
+      (λ a b. first-append p xs ys y b (λ c. f (rw (a, c))) (λ c d. g (rw (a, c)) d))
+
+module _ {A B : Type 0} (f : A → B) where
+  pub map-append : (xs ys : List A) → map f (xs ++ ys) ≡ map f xs ++ map f ys
+  map-append [] ys = refl
+  map-append (x ∷ xs) ys = rw (map-append xs ys)
+
+pub map-fuse : {A B C : Type 0} (g : B → C) (f : A → B) (xs : List A) → map g (map f xs) ≡ map (λ x. g (f x)) xs
+map-fuse g f [] = refl
+map-fuse g f (x ∷ xs) = rw (map-fuse g f xs)

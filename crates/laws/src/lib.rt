@@ -1,0 +1,1 @@
+// Laws that more than one crate cites. No code: specs/ has the words, proofs/ the laws.

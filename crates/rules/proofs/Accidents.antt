@@ -1,0 +1,79 @@
+-- What must never happen, on the paper's own cases: each is computed, so that a rule that breaks it shows the wrong value.
+use Prim.Native.Nat.{ℕ, zero, suc}
+use mathlib.Core.Bool.{Bool, true, false}
+use mathlib.Core.Path.{_≡_, refl}
+use mathlib.Core.List.{List, [], _∷_, _++_, map}
+use mathlib.Core.Option.{Option, none, some}
+use Rattle.rules.specs.Types.{Attribute, Simple, HeadOfQueue, Ordered, TaskState, Dormant, Enabled, Blocked, Task, Known, Event, Command, Completion, Good, CheckCondition, Management, ClearTaskSet, Pending, EndNone, Policy, Clear, Answer, EndedAtEntry, Turn, Nothing, Names}
+use Rattle.rules.specs.Tasks.{named, turnOf}
+use Rattle.rules.specs.Rulings.{State, fresh}
+use Rattle.rules.specs.Rules.{ended, newTask, enter, complete, manage, ruleFor, ruling, step, answer}
+
+-- exempt, so that no pending bit stands in the way
+abbrev command : ℕ → ℕ → Attribute → Bool → Event
+command n g a naca = Command (record { nexus = n; asked = Known a; naca = naca; exempt = true; tag = g })
+
+abbrev from : State → List Event → State
+from s [] = s
+from s (e ∷ es) = from (step s e) es
+
+abbrev fresh00 : State
+fresh00 = fresh (record { qerr = EndNone; tas = false })
+
+abbrev states : State → List TaskState
+states s = map (λ (t : Task). t .state) (s .tasks)
+
+abbrev names : ℕ → State → Turn
+names run s = turnOf (named Clear run (s .tasks))
+
+abbrev caseB : List Event
+caseB = command 0 1 Simple false ∷ command 1 1 Ordered false ∷ command 0 2 Simple false ∷ []
+
+-- case B: a younger read does not overtake the ORDERED write, while it waits or while it runs
+pub read-waits : states (from fresh00 caseB) ≡ Enabled ∷ Dormant ∷ Dormant ∷ []
+unfolding fresh named newTask enter complete ruleFor ruling step
+read-waits = refl
+
+pub read-still-waits : states (from fresh00 (caseB ++ (Completion 0 1 Good ∷ []))) ≡ Enabled ∷ Dormant ∷ []
+unfolding fresh named newTask enter complete ruleFor ruling step
+read-still-waits = refl
+
+abbrev caseC : List Event
+caseC = command 0 1 Simple false ∷ command 1 1 HeadOfQueue false ∷ command 1 2 HeadOfQueue false ∷ []
+
+-- case C: a younger HEAD OF QUEUE task leaves an enabled SIMPLE one enabled
+pub simple-stays-enabled : states (from fresh00 caseC) ≡ Enabled ∷ Enabled ∷ Enabled ∷ []
+unfolding fresh named newTask enter complete ruleFor ruling step
+simple-stays-enabled = refl
+
+-- the oldest HEAD OF QUEUE task is named, and after four the SIMPLE one
+pub oldest-head-named : names 3 (from fresh00 caseC) ≡ Names (record { nexus = 1; tag = 1 })
+unfolding fresh named newTask enter complete ruleFor ruling step
+oldest-head-named = refl
+
+pub simple-named-at-four : names 4 (from fresh00 caseC) ≡ Names (record { nexus = 0; tag = 1 })
+unfolding fresh named newTask enter complete ruleFor ruling step
+simple-named-at-four = refl
+
+-- case D: as the ACA begins the ORDERED task stays dormant, though its older one has ended
+pub dormant-in-aca :
+    states (from fresh00 (command 0 1 Simple true ∷ command 1 1 Ordered false ∷ Completion 0 1 CheckCondition ∷ [])) ≡ Dormant ∷ []
+unfolding fresh named newTask enter complete ruleFor ruling step
+dormant-in-aca = refl
+
+-- CLEAR TASK SET from 0 under TAS 0: nexus 1, which lost a task, is told, and nexus 0 is not
+pub causer-untold :
+    map (λ (p : Pending). p .cleared)
+    ((from fresh00 (command 0 1 Simple false ∷ command 1 1 Simple false ∷ Management 0 ClearTaskSet ∷ [])) .pending)
+    ≡ false ∷ true ∷ false ∷ false ∷ false ∷ false ∷ false ∷ false ∷ []
+unfolding fresh named newTask enter manage ruleFor ruling step
+causer-untold = refl
+
+abbrev fill : ℕ → List Event
+fill zero = []
+fill (suc n) = command 0 n Simple false ∷ fill n
+
+-- case J: 64 tasks give TASK SET FULL
+pub full-at-64 : answer (from fresh00 (fill 64)) (command 1 0 Simple false) ≡ ended 0x28
+unfolding fresh named newTask enter complete ruleFor ruling step answer
+full-at-64 = refl

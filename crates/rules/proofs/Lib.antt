@@ -1,0 +1,11 @@
+pub mod Accidents
+pub mod Fates
+pub mod Distinct
+pub mod Settled
+pub mod Held
+pub mod Cases
+pub mod WellKept
+pub mod WellSays
+pub mod Turns
+pub mod Order
+pub mod Errors

@@ -1,0 +1,150 @@
+-- Laws of the turn rule in a table without ACA.
+use Prim.Native.Nat.{ℕ, _+_, _<_}
+use mathlib.Core.Bool.{Bool, true, false, cond, _||_, _&&_, not}
+use mathlib.Core.Path.{_≡_, refl, ap}
+use mathlib.Core.List.{List, [], _∷_, _++_}
+use mathlib.Core.Option.{Option, none, some}
+use native.Mathlib.Omega.{arith}
+use lib.Dec.{ltb}
+use borrow.Author.Tests.{ltb-true, not-true}
+use Rattle.laws.specs.Lists.{one-if, any, count, first}
+use Rattle.laws.proofs.Bools.{and-true, and-false, or-false, or-true, or-on, not-both, none-some, cases, split}
+use Rattle.laws.proofs.Lists.{first-cases, first-passes, first-append}
+use Rattle.rules.specs.Types.{Attribute, Simple, HeadOfQueue, Ordered, Aca, Task, Clear}
+use Rattle.rules.specs.Tasks.{isHead, isPlain, isAca, isEnabled, enabledTask, enabledHead, enabledPlain, same, named}
+use Rattle.rules.specs.Well.{settled, distinct}
+use Rattle.rules.proofs.Distinct.{distinct-first}
+use Rattle.rules.proofs.Settled.{headTask, settled-cons, enabled-head, held-back, oldest-enabled}
+
+abbrev pub otherTask : Task → Bool
+otherTask t = not (headTask t)
+
+-- no enabled HEAD OF QUEUE task: none at all
+no-heads :
+    (older : List Attribute) (pre rest : List Task) → settled older (pre ++ rest) ≡ true → any enabledHead pre ≡ false
+    → count headTask pre ≡ 0
+no-heads older [] rest e n = refl
+no-heads older (t ∷ ts) rest e n =
+    let o = settled-cons older t (ts ++ rest) e in
+    let k = or-false (enabledHead t) (any enabledHead ts) n in
+    split (headTask t) (λ h. not-both (enabled-head older t (ts ++ rest) o h) (k .0))
+    (λ h. omega (arith, ap one-if h, no-heads (t .attribute ∷ older) ts rest (o .rest) (k .1)))
+
+head-or-plain : (a : Attribute) → isAca a ≡ false → isHead a ≡ false → isPlain a ≡ true
+head-or-plain Simple p q = refl
+head-or-plain HeadOfQueue p q = not-both refl q
+head-or-plain Ordered p q = refl
+head-or-plain Aca p q = not-both refl p
+
+head-is : (a : Attribute) → isHead a ≡ true → a ≡ HeadOfQueue
+head-is Simple e = not-both e refl
+head-is HeadOfQueue e = refl
+head-is Ordered e = not-both e refl
+head-is Aca e = not-both e refl
+
+-- with the oldest a HEAD OF QUEUE task no SIMPLE or ORDERED one is enabled
+pub none-plain : (u : Task) (us : List Task) → settled [] (u ∷ us) ≡ true → headTask u ≡ true → any enabledPlain (u ∷ us) ≡ false
+none-plain u us e h =
+    let o = settled-cons [] u us e in
+    let a : u .attribute ≡ HeadOfQueue = head-is (u .attribute) h in
+    rw a (held-back (HeadOfQueue ∷ []) us refl refl (rw a at (o .rest)))
+
+oldest-plain : (u : Task) (us : List Task) → settled [] (u ∷ us) ≡ true → headTask u ≡ false → enabledPlain u ≡ true
+oldest-plain u us e h = rw (head-or-plain (u .attribute) (settled-cons [] u us e .ordinary) h, oldest-enabled u us e)
+
+-- an enabled SIMPLE or ORDERED task means that the oldest one is
+pub plain-oldest : (u : Task) (us : List Task) → settled [] (u ∷ us) ≡ true → any enabledPlain (u ∷ us) ≡ true → enabledPlain u ≡ true
+plain-oldest u us e h = split (headTask u) (λ y. not-both h (none-plain u us e y)) (λ y. oldest-plain u us e y)
+
+-- so "else the oldest enabled task" is no HEAD OF QUEUE task while a SIMPLE or ORDERED one is enabled
+pub else-plain :
+    (ts : List Task) (x : Task) → settled [] ts ≡ true → any enabledPlain ts ≡ true → first enabledTask ts ≡ some x
+    → enabledPlain x ≡ true
+else-plain [] x e h n = not-both h refl
+else-plain (u ∷ us) x e h n =
+    let p = plain-oldest u us e h in
+    first-cases enabledTask u us x n (λ a b. rw b at p) (λ a b. not-both (oldest-enabled u us e) a)
+
+-- whom the turn rule names: the oldest HEAD OF QUEUE task, after fewer than four of them if the oldest task is none; or the oldest
+named-cases :
+    {P : Type 0} (run : ℕ) (u : Task) (us : List Task) (x : Task) → settled [] (u ∷ us) ≡ true → named Clear run (u ∷ us) ≡ some x
+    → (first enabledHead (u ∷ us) ≡ some x → (headTask u ≡ false → run < 4) → P) → (u ≡ x → headTask u ≡ false → P) → P
+unfolding named
+named-cases {P} run u us x e n f g =
+    cases (λ o. o ≡ some x → P) (any enabledHead (u ∷ us) && (ltb run 4 || not (any enabledPlain (u ∷ us))))
+    (λ b h.
+    f h
+    (λ nh.
+    ltb-true run 4
+    (split (ltb run 4) (λ l. l)
+    (λ l.
+    let k = and-true (any enabledHead (u ∷ us)) (ltb run 4 || not (any enabledPlain (u ∷ us))) b .1 in
+    let q : any enabledPlain (u ∷ us) ≡ true = rw (oldest-plain u us e nh) in
+    not-both q (not-true _ (or-true (ltb run 4) (not (any enabledPlain (u ∷ us))) k l))))))
+    (λ b h.
+    split (headTask u)
+    (λ y.
+    let k : any enabledHead (u ∷ us) ≡ true = rw (enabled-head [] u us (settled-cons [] u us e) y) in
+    not-both (rw (none-plain u us e y) (or-on (ltb run 4)))
+    (and-false (any enabledHead (u ∷ us)) (ltb run 4 || not (any enabledPlain (u ∷ us))) b k))
+    (λ y. g (let h′ : some u ≡ some x = rw (oldest-enabled u us e) at h in cc) y))
+    n
+
+enabled-at :
+    (older : List Attribute) (pre : List Task) (t : Task) (post : List Task) → settled older (pre ++ t ∷ post) ≡ true
+    → headTask t ≡ true → enabledHead t ≡ true
+enabled-at older [] t post e h = enabled-head older t post (settled-cons older t post e) h
+enabled-at older (u ∷ us) t post e h =
+    enabled-at (u .attribute ∷ older) us t post (settled-cons older u (us ++ t ∷ post) e .rest) h
+
+-- how a turn comes out for a task that has the tasks pre before it: the named task is that task; or an older HEAD OF QUEUE one; or the oldest, which
+-- is none; or, past a task that is none with no older HEAD OF QUEUE ones, a younger HEAD OF QUEUE one after fewer than four
+pub turn-cases :
+    {P : Type 0} (run : ℕ) (pre : List Task) (t : Task) (post : List Task) (x : Task) → settled [] (pre ++ t ∷ post) ≡ true
+    → named Clear run (pre ++ t ∷ post) ≡ some x
+    → (t ≡ x → P)
+    → (first enabledHead pre ≡ some x → P)
+    → (first otherTask pre ≡ some x → P)
+    → (headTask t ≡ false → count headTask pre ≡ 0 → run < 4 → headTask x ≡ true → P)
+    → P
+turn-cases {P} run [] t post x e n hit older plain younger =
+    named-cases run t post x e n
+    (λ h l.
+    first-cases enabledHead t post x h (λ a b. hit b)
+    (λ a b.
+    split (headTask t) (λ y. not-both (enabled-head [] t post (settled-cons [] t post e) y) a)
+    (λ y. younger y refl (l y) (and-true (headTask x) _ (first-passes enabledHead post x b) .0))))
+    (λ b y. hit b)
+turn-cases {P} run (u ∷ us) t post x e n hit older plain younger =
+    named-cases run u (us ++ t ∷ post) x e n
+    (λ h l.
+    first-append enabledHead (u ∷ us) (t ∷ post) x h older
+    (λ a b.
+    first-cases enabledHead t post x b (λ c d. hit d)
+    (λ c d.
+    let z : count headTask (u ∷ us) ≡ 0 = no-heads [] (u ∷ us) (t ∷ post) e a in
+    younger (split (headTask t) (λ y. not-both (enabled-at [] (u ∷ us) t post e y) c) (λ y. y)) z
+    (l (split (headTask u) (λ y. absurd (omega (arith, ap one-if y))) (λ y. y)))
+    (and-true (headTask x) _ (first-passes enabledHead post x d) .0))))
+    (λ b y. plain (rw (y, b)))
+
+-- a HEAD OF QUEUE task that is named is the oldest enabled one of them
+pub named-head-oldest :
+    (run : ℕ) (ts : List Task) (x : Task) → settled [] ts ≡ true → named Clear run ts ≡ some x → headTask x ≡ true
+    → first enabledHead ts ≡ some x
+unfolding named
+named-head-oldest run [] x e n h = none-some x n
+named-head-oldest run (u ∷ us) x e n h =
+    named-cases run u us x e n (λ k l. k) (λ b y. not-both h (rw b at y))
+
+-- the named task is the one that its nexus and tag find
+pub named-found :
+    (run n g : ℕ) (ts : List Task) (x : Task) → distinct ts ≡ true → named Clear run ts ≡ some x → same n g x ≡ true
+    → first (same n g) ts ≡ some x
+unfolding named
+named-found run n g ts x d e h =
+    cases (λ o. o ≡ some x → first (same n g) ts ≡ some x)
+    (any enabledHead ts && (ltb run 4 || not (any enabledPlain ts)))
+    (λ b k. distinct-first n g enabledHead ts x d k h)
+    (λ b k. distinct-first n g enabledTask ts x d k h)
+    e

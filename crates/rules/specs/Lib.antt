@@ -1,0 +1,6 @@
+pub mod Types
+pub mod Tasks
+pub mod Bits
+pub mod Rulings
+pub mod Rules
+pub mod Well

@@ -1,0 +1,154 @@
+-- The state of the set, and what a ruling means for it: who ends and with which status, who joins, who is told, and the report.
+-- Document 01, "Bytes" and "Ends, ACA and aborts".
+--
+--   State                := header, the pending bits of nexus 0 to 7, the tasks from oldest to youngest
+--   withCount, withAca, withRun h x  := the header with another count, allegiance, run
+--   isClear a            := no ACA is in effect
+--   pendingOf s n        := the pending bits of nexus n
+--   turn s               := whose turn it is
+--   fresh p              := a fresh set under the policy p
+--   kept fs xs, lost fs xs   := those of xs that stay, and those that end, under the fates fs in their order
+--   abortedBy p n t      := the fate of a task that CLEAR TASK SET or QERR aborts for nexus n under the policy p
+--   fateOf w t, fatesOf s r  := what the sweep w does to the task t; what the ruling r does to each task of s
+--   joinsOf r            := the task that joins, as a list of one or none
+--   tellLosersFrom i n ls ps := bit 4 for every nexus but n that has a task among ls; ps are the bits of nexus i and above
+--   noted k ls ps        := the pending bits after the notice k, where the tasks ls ended
+--   answerOf r, ruled s r, reportOf s r  := the answer; the state after the ruling; the ended tasks
+use Prim.Native.Nat.{ℕ, suc}
+use mathlib.Core.Bool.{Bool, true, false, cond, _&&_, not}
+use mathlib.Core.List.{List, [], _∷_, _++_, map}
+use lib.Dec.{eqb}
+use lib.ListN.{length, getD, set, replicate}
+use Rattle.laws.specs.Lists.{any}
+use Rattle.rules.specs.Types.{Task, Policy, Qerr, EndNone, EndAll, EndNexus, Allegiance, Clear, Faulted, Header, Pending, Turn, Fate, Stays, Ends, Ended, Sweep, Nobody, OneTask, NexusTasks, AcaTask, AllTasks, ClearedBy, FailedTask, Notice, Quiet, Reported, OthersLost, NexusLost, UnitWasReset, HardWasReset, PowerCameOn, Joins, NoTask, NewTask, Change, Answer, Ruling, Keeps, Changes}
+use Rattle.rules.specs.Tasks.{nexuses, acaTask, ofNexus, same, restate, named, turnOf}
+use Rattle.rules.specs.Bits.{noPending, without, afterPowerOn, afterHardReset, afterUnitReset, afterNexusLoss, afterCleared}
+
+pub record State : Type 0 where
+  pub header : Header
+  pub pending : List Pending
+  pub tasks : List Task
+
+abbrev pub withCount : Header → ℕ → Header
+withCount h n = record { policy = h .policy; count = n; aca = h .aca; run = h .run }
+
+abbrev pub withAca : Header → Allegiance → Header
+withAca h a = record { policy = h .policy; count = h .count; aca = a; run = h .run }
+
+abbrev pub withRun : Header → ℕ → Header
+withRun h r = record { policy = h .policy; count = h .count; aca = h .aca; run = r }
+
+abbrev pub isClear : Allegiance → Bool
+isClear Clear = true
+isClear (Faulted n) = false
+
+abbrev pub pendingOf : State → ℕ → Pending
+pendingOf s n = getD (s .pending) n noPending
+
+abbrev pub turn : State → Turn
+turn s = turnOf (named (s .header .aca) (s .header .run) (s .tasks))
+
+-- "A fresh table equals the state after power on."
+unfoldable pub fresh : Policy → State
+fresh p =
+    record {
+      header = record { policy = p; count = 0; aca = Clear; run = 0 };
+      pending = replicate nexuses (afterPowerOn noPending);
+      tasks = [];
+    }
+
+-- Who ends.
+abbrev pub endIf : Bool → ℕ → Fate
+endIf true st = Ends st
+endIf false st = Stays
+
+-- one for which there is no fate stays
+module _ {A : Type 0} where
+  abbrev pub kept : List Fate → List A → List A
+  kept [] xs = xs
+  kept (f ∷ fs) [] = []
+  kept (Stays ∷ fs) (x ∷ xs) = x ∷ kept fs xs
+  kept (Ends st ∷ fs) (x ∷ xs) = kept fs xs
+
+  abbrev pub lost : List Fate → List A → List A
+  lost [] xs = []
+  lost (f ∷ fs) [] = []
+  lost (Stays ∷ fs) (x ∷ xs) = lost fs xs
+  lost (Ends st ∷ fs) (x ∷ xs) = x ∷ lost fs xs
+
+-- "Aborted tasks end with FFh, with one exception: by CLEAR TASK SET or QERR, tasks of a nexus other than the causing one get TASK ABORTED 40h
+-- if TAS is 1."
+abbrev pub abortedBy : Policy → ℕ → Task → Fate
+abortedBy p n t = Ends (cond (not (ofNexus n t) && p .tas) 0x40 0xFF)
+
+-- "QERR: 00b none, 01b every other task, 11b the rest of that nexus"
+abbrev pub fateByQerr : Qerr → Policy → ℕ → Task → Fate
+fateByQerr EndNone p n t = Stays
+fateByQerr EndAll p n t = abortedBy p n t
+fateByQerr EndNexus p n t = endIf (ofNexus n t) 0xFF
+
+abbrev pub fateOf : Sweep → Task → Fate
+fateOf Nobody t = Stays
+fateOf (OneTask n g st) t = endIf (same n g t) st
+fateOf (NexusTasks n) t = endIf (ofNexus n t) 0xFF
+fateOf AcaTask t = endIf (acaTask t) 0xFF
+fateOf AllTasks t = Ends 0xFF
+fateOf (ClearedBy n p) t = abortedBy p n t
+fateOf (FailedTask n g p) t = cond (same n g t) (Ends 0x02) (fateByQerr (p .qerr) p n t)
+
+abbrev pub fatesOf : State → Ruling → List Fate
+fatesOf s (Keeps a) = []
+fatesOf s (Changes a c) = map (fateOf (c .sweep)) (s .tasks)
+
+abbrev pub newcomers : Joins → List Task
+newcomers NoTask = []
+newcomers (NewTask t) = t ∷ []
+
+abbrev pub joinsOf : Ruling → List Task
+joinsOf (Keeps a) = []
+joinsOf (Changes a c) = newcomers (c .joins)
+
+-- Who is told.
+-- "If TAS is 0, each other nexus that lost a task so gets bit 4."
+abbrev pub tellLosersFrom : ℕ → ℕ → List Task → List Pending → List Pending
+tellLosersFrom i n ls [] = []
+tellLosersFrom i n ls (p ∷ ps) =
+    cond (not (eqb i n) && any (ofNexus i) ls) (afterCleared p) p ∷ tellLosersFrom (suc i) n ls ps
+
+abbrev pub noted : Notice → List Task → List Pending → List Pending
+noted Quiet ls ps = ps
+noted (Reported n b) ls ps = set ps n (without b (getD ps n noPending))
+noted (OthersLost n) ls ps = tellLosersFrom 0 n ls ps
+noted (NexusLost n) ls ps = set ps n (afterNexusLoss (getD ps n noPending))
+noted UnitWasReset ls ps = map afterUnitReset ps
+noted HardWasReset ls ps = map afterHardReset ps
+noted PowerCameOn ls ps = map afterPowerOn ps
+
+-- What comes out.
+abbrev pub answerOf : Ruling → Answer
+answerOf (Keeps a) = a
+answerOf (Changes a c) = a
+
+-- those that stay, and the new one as the youngest, with their states brought up to date
+abbrev pub tasksAfter : State → Change → List Task
+tasksAfter s c =
+    restate (s .header .aca) (c .header .aca) (kept (map (fateOf (c .sweep)) (s .tasks)) (s .tasks) ++ newcomers (c .joins))
+
+abbrev pub ruled : State → Ruling → State
+ruled s (Keeps a) = s
+ruled s (Changes a c) =
+    record {
+      header = withCount (c .header) (length (tasksAfter s c));
+      pending = noted (c .notice) (lost (map (fateOf (c .sweep)) (s .tasks)) (s .tasks)) (s .pending);
+      tasks = tasksAfter s c;
+    }
+
+abbrev pub endedFrom : List Fate → List Task → List Ended
+endedFrom [] ts = []
+endedFrom (f ∷ fs) [] = []
+endedFrom (Stays ∷ fs) (t ∷ ts) = endedFrom fs ts
+endedFrom (Ends st ∷ fs) (t ∷ ts) = record { nexus = t .nexus; status = st; tag = t .tag } ∷ endedFrom fs ts
+
+-- "the tasks ended by this event in their former age order"
+abbrev pub reportOf : State → Ruling → List Ended
+reportOf s r = endedFrom (fatesOf s r) (s .tasks)

@@ -1,0 +1,134 @@
+-- Tasks: which are eligible, their states after an event, and whose turn it is.
+-- Document 01, "Bytes" (attributes, states, Eligible), "Ends, ACA and aborts" (the states) and "Turn rule"; 002, clause 8.6.
+--
+--   places, nexuses, mostRun    := 64 tasks, 8 nexuses, 4 HEAD OF QUEUE turns in a row while another task is enabled
+--   isHead, isPlain, isAca a    := the attribute is HEAD OF QUEUE; SIMPLE or ORDERED; ACA
+--   isEnabled st, enabledTask t := the state, or the task, is enabled
+--   acaTask, enabledHead, enabledPlain t   := the task has attribute ACA; is enabled and HEAD OF QUEUE; is enabled and SIMPLE or ORDERED
+--   ofNexus n t, same n g t     := the task is one of nexus n; and has the tag g
+--   withState t st              := the task in another state
+--   holdsBack a o, eligible older a   := an older task of attribute o holds one of attribute a back; no older task does
+--   settleFrom older ts         := every eligible task of ts enabled, every other dormant, behind tasks of the attributes older
+--   restate a b ts              := the states after an event, by the allegiance before it and after it
+--   named aca run ts            := the task that the turn rule names, or none
+--   turnOf o, isNamed n g turn  := its name; whether that is the name of the task of nexus n and tag g
+--   runAfter a run              := run after a turn of a task with attribute a
+use Prim.Native.Nat.{ℕ, _+_, min}
+use mathlib.Core.Bool.{Bool, true, false, cond, _||_, _&&_, not}
+use mathlib.Core.List.{List, [], _∷_, map}
+use mathlib.Core.Option.{Option, none, some}
+use lib.Dec.{eqb, ltb}
+use Rattle.laws.specs.Lists.{any, first}
+use Rattle.rules.specs.Types.{Attribute, Simple, HeadOfQueue, Ordered, Aca, TaskState, Dormant, Enabled, Blocked, Task, Allegiance, Clear, Faulted, Turn, Nothing, Names}
+
+abbrev pub places : ℕ
+places = 64
+
+abbrev pub nexuses : ℕ
+nexuses = 8
+
+abbrev pub mostRun : ℕ
+mostRun = 4
+
+abbrev pub isHead : Attribute → Bool
+isHead Simple = false
+isHead HeadOfQueue = true
+isHead Ordered = false
+isHead Aca = false
+
+abbrev pub isPlain : Attribute → Bool
+isPlain Simple = true
+isPlain HeadOfQueue = false
+isPlain Ordered = true
+isPlain Aca = false
+
+abbrev pub isAca : Attribute → Bool
+isAca Simple = false
+isAca HeadOfQueue = false
+isAca Ordered = false
+isAca Aca = true
+
+abbrev pub isEnabled : TaskState → Bool
+isEnabled Dormant = false
+isEnabled Enabled = true
+isEnabled Blocked = false
+
+abbrev pub acaTask : Task → Bool
+acaTask t = isAca (t .attribute)
+
+abbrev pub ofNexus : ℕ → Task → Bool
+ofNexus n t = eqb (t .nexus) n
+
+abbrev pub same : ℕ → ℕ → Task → Bool
+same n g t = eqb (t .nexus) n && eqb (t .tag) g
+
+abbrev pub withState : Task → TaskState → Task
+withState t st = record { nexus = t .nexus; attribute = t .attribute; state = st; naca = t .naca; tag = t .tag }
+
+-- "HEAD OF QUEUE always; SIMPLE if no older task in the table is HEAD OF QUEUE or ORDERED; ORDERED if no older task is there." (Of an ACA task it is asked nowhere.)
+abbrev pub holdsBack : Attribute → Attribute → Bool
+holdsBack HeadOfQueue o = false
+holdsBack Simple Simple = false
+holdsBack Simple HeadOfQueue = true
+holdsBack Simple Ordered = true
+holdsBack Simple Aca = false
+holdsBack Ordered o = true
+holdsBack Aca o = false
+
+-- of the older tasks only the attributes count, and not their order
+abbrev pub eligible : List Attribute → Attribute → Bool
+eligible older a = not (any (holdsBack a) older)
+
+abbrev pub enabledIf : Bool → TaskState
+enabledIf true = Enabled
+enabledIf false = Dormant
+
+-- from oldest to youngest
+abbrev pub settleFrom : List Attribute → List Task → List Task
+settleFrom older [] = []
+settleFrom older (t ∷ ts) =
+    withState t (enabledIf (eligible older (t .attribute))) ∷ settleFrom (t .attribute ∷ older) ts
+
+abbrev pub blockedIfEnabled : TaskState → TaskState
+blockedIfEnabled Dormant = Dormant
+blockedIfEnabled Enabled = Blocked
+blockedIfEnabled Blocked = Blocked
+
+-- "When ACA begins, enabled tasks become blocked; dormant ones stay so, even if they become eligible. After any event that ends without ACA,
+-- every eligible task is enabled."
+abbrev pub restate : Allegiance → Allegiance → List Task → List Task
+restate before Clear ts = settleFrom [] ts
+restate Clear (Faulted n) ts = map (λ (t : Task). withState t (blockedIfEnabled (t .state))) ts
+restate (Faulted m) (Faulted n) ts = ts
+
+-- The turn rule.
+abbrev pub enabledTask : Task → Bool
+enabledTask t = isEnabled (t .state)
+
+abbrev pub enabledHead : Task → Bool
+enabledHead t = isHead (t .attribute) && isEnabled (t .state)
+
+abbrev pub enabledPlain : Task → Bool
+enabledPlain t = isPlain (t .attribute) && isEnabled (t .state)
+
+-- "With ACA: the ACA task, else nothing. Without: if an enabled HEAD OF QUEUE task exists, and run is below 4 or no SIMPLE or ORDERED task
+-- is enabled, the oldest such HEAD OF QUEUE task; else the oldest enabled task, else nothing."
+unfoldable pub named : Allegiance → ℕ → List Task → Option Task
+named (Faulted n) run ts = first acaTask ts
+named Clear run ts =
+    cond (any enabledHead ts && (ltb run mostRun || not (any enabledPlain ts))) (first enabledHead ts) (first enabledTask ts)
+
+abbrev pub turnOf : Option Task → Turn
+turnOf none = Nothing
+turnOf (some t) = Names (record { nexus = t .nexus; tag = t .tag })
+
+abbrev pub isNamed : ℕ → ℕ → Turn → Bool
+isNamed n g Nothing = false
+isNamed n g (Names t) = eqb (t .nexus) n && eqb (t .tag) g
+
+-- "sets run to the smaller of run + 1 and 4 if HEAD OF QUEUE, to 0 if SIMPLE or ORDERED. Other completions, an ACA task's included, leave it."
+abbrev pub runAfter : Attribute → ℕ → ℕ
+runAfter HeadOfQueue run = min (run + 1) mostRun
+runAfter Simple run = 0
+runAfter Ordered run = 0
+runAfter Aca run = run
