@@ -4,10 +4,10 @@ use mathlib.Core.Bool.{Bool, true, false}
 use mathlib.Core.Path.{_≡_, refl}
 use mathlib.Core.List.{List, [], _∷_, _++_, map}
 use mathlib.Core.Option.{Option, none, some}
-use Rattle.rules.specs.Types.{Attribute, Simple, HeadOfQueue, Ordered, TaskState, Dormant, Enabled, Blocked, Task, Known, Event, Command, Completion, Good, CheckCondition, Management, ClearTaskSet, Pending, EndNone, Policy, Clear, Answer, EndedAtEntry, Turn, Nothing, Names}
+use Rattle.rules.specs.Types.{Attribute, Simple, HeadOfQueue, Ordered, TaskState, Dormant, Enabled, Blocked, Task, Known, Event, Command, Completion, Good, CheckCondition, Management, AbortTask, AbortTaskSet, ClearTaskSet, Pending, EndNone, Policy, Clear, Answer, EndedAtEntry, Ended, Turn, Nothing, Names}
 use Rattle.rules.specs.Tasks.{named, turnOf}
 use Rattle.rules.specs.Rulings.{State, fresh}
-use Rattle.rules.specs.Rules.{ended, newTask, enter, complete, manage, ruleFor, ruling, step, answer}
+use Rattle.rules.specs.Rules.{ended, newTask, enter, complete, manage, ruleFor, ruling, step, answer, report}
 
 -- exempt, so that no pending bit stands in the way
 abbrev command : ℕ → ℕ → Attribute → Bool → Event
@@ -77,3 +77,24 @@ fill (suc n) = command 0 n Simple false ∷ fill n
 pub full-at-64 : answer (from fresh00 (fill 64)) (command 1 0 Simple false) ≡ ended 0x28
 unfolding fresh named newTask enter complete ruleFor ruling step answer
 full-at-64 = refl
+
+abbrev tags : List Ended → List ℕ
+tags es = map (λ (x : Ended). x .tag) es
+
+abbrev twoReads : State
+twoReads = from fresh00 (command 0 1 Simple false ∷ command 0 2 Simple false ∷ [])
+
+-- "in their former age order": the report of an event that ends two tasks has the older one first
+pub older-end-first : tags (report twoReads (Management 0 AbortTaskSet)) ≡ 1 ∷ 2 ∷ []
+unfolding fresh named newTask enter manage ruleFor ruling step report
+older-end-first = refl
+
+-- "every task of that nexus ends": not its twin alone
+pub overlapped-ends-nexus : tags (report twoReads (command 0 1 Simple false)) ≡ 1 ∷ 2 ∷ []
+unfolding fresh named newTask enter ruleFor ruling step report
+overlapped-ends-nexus = refl
+
+-- "the tasks ended by this event": no other
+pub one-end-listed : tags (report twoReads (Management 0 (AbortTask 1))) ≡ 1 ∷ []
+unfolding fresh named newTask enter manage ruleFor ruling step report
+one-end-listed = refl

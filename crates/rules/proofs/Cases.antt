@@ -8,11 +8,11 @@ use lib.Dec.{eqb, ltb, leb}
 use borrow.Author.Tests.{ltb-true, not-true, not-false}
 use Rattle.laws.specs.Lists.{any, first}
 use Rattle.laws.proofs.Bools.{and-true, cases, none-some, some-is}
-use Rattle.rules.specs.Types.{Task, Entry, Finish, Function, Happening, Event, Command, Completion, Management, Condition, Allegiance, Clear, Faulted, Header, Pending, Bit, Top, NoBit, Highest, Nobody, NexusTasks, Reported, NoTask, Change, Answer, Done, NexusAboveSeven, NoSuchTask, NotEnabled, Ruling, Keeps, Changes}
+use Rattle.rules.specs.Types.{Task, Entry, Finish, Function, Happening, Event, Command, Completion, Management, Condition, Allegiance, Clear, Faulted, Header, Pending, Bit, Top, NoBit, Highest, Nobody, NexusTasks, Reported, NoTask, Change, Sense, EndedAtEntry, Done, NexusAboveSeven, NoSuchTask, NotEnabled, Ruling, Keeps, Changes}
 use Rattle.rules.specs.Tasks.{isEnabled, acaTask, same, isNamed}
-use Rattle.rules.specs.Bits.{top}
+use Rattle.rules.specs.Bits.{top, senseFor}
 use Rattle.rules.specs.Rulings.{State, pendingOf, turn}
-use Rattle.rules.specs.Rules.{sweeping, ended, onlyIf, check1, asksAca, check2, check3, badAttribute, check4, check5, accepting, decide, enter, finish, complete, manage, happen, nexusOf, ruleFor, ruling}
+use Rattle.rules.specs.Rules.{sweeping, checked, onlyIf, check1, asksAca, check2, check3, badAttribute, check4, check5, accepting, decide, enter, finish, complete, manage, happen, nexusOf, ruleFor, ruling}
 
 only-if : (P : Ruling → Type 0) (b : Bool) (r q : Ruling) → P r → onlyIf b r ≡ some q → P q
 only-if P true r q p e = some-is P r q e p
@@ -35,20 +35,22 @@ decide-cases P none none none false true r4 r5 r f1 f2 f3 p4 p5 f = p5
 decide-cases P none none none false false r4 r5 r f1 f2 f3 p4 p5 f = f refl refl refl refl
 
 check2-keeps :
-    (P : Ruling → Type 0) (a : Allegiance) (c : Entry) (aca : Bool) (q : Ruling) → ((x : Answer) → P (Keeps x))
+    (P : Ruling → Type 0) (a : Allegiance) (c : Entry) (aca : Bool) (q : Ruling) → ((st : ℕ) (se : Sense) → P (Keeps (EndedAtEntry st se)))
     → check2 a c aca ≡ some q → P q
 check2-keeps P Clear c aca q k e = none-some q e
 check2-keeps P (Faulted f) c aca q k e =
-    cases (λ o. o ≡ some q → P q) (eqb (c .nexus) f) (λ h. only-if P (not (asksAca (c .asked) && not aca)) _ q (k (ended 0x30)))
-    (λ h e′. some-is P _ q e′ (k _))
+    cases (λ o. o ≡ some q → P q) (eqb (c .nexus) f) (λ h. only-if P (not (asksAca (c .asked) && not aca)) _ q (k _ _))
+    (λ h e′. some-is P _ q e′ (k _ _))
     e
 
 -- a command: overlapped, kept out, told of an attention, or accepted
 pub enter-cases :
     (P : Ruling → Type 0) (h : Header) (c : Entry) (here aca : Bool) (p : Pending)
-    → ((a : Answer) → P (Changes a (sweeping h (NexusTasks (c .nexus)))))
-    → ((a : Answer) → P (Keeps a))
-    → ((a : Answer) (b : Bit) → P (Changes a (record { sweep = Nobody; joins = NoTask; header = h; notice = Reported (c .nexus) b })))
+    → P (Changes (checked 0xB 0x4E 0x00) (sweeping h (NexusTasks (c .nexus))))
+    → ((st : ℕ) (se : Sense) → P (Keeps (EndedAtEntry st se)))
+    → ((b : Bit)
+    → P
+    (Changes (EndedAtEntry 0x02 (senseFor b)) (record { sweep = Nobody; joins = NoTask; header = h; notice = Reported (c .nexus) b })))
     → (here ≡ false → check2 (h .aca) c aca ≡ none → badAttribute (h .aca) (c .asked) ≡ false → leb 64 (h .count) ≡ false
     → P (Changes Done (accepting h c)))
     → P (enter h c here aca p)
@@ -60,16 +62,16 @@ enter-cases P h c here aca p over keeps notes accepts =
     _
     _
     _
-    (λ q. only-if P here _ q (over _))
+    (λ q. only-if P here _ q over)
     (λ q. check2-keeps P (h .aca) c aca q keeps)
     (λ q. reports (cond (c .exempt) NoBit (top p)) q)
-    (keeps _)
-    (keeps _)
+    (keeps _ _)
+    (keeps _ _)
     (λ n1. accepts (only-none here _ n1))
   where
     reports : (o : Top) (q : Ruling) → check3 h (c .nexus) o ≡ some q → P q
     reports NoBit q e = none-some q e
-    reports (Highest b) q e = some-is P _ q e (notes _ b)
+    reports (Highest b) q e = some-is P _ q e (notes b)
 
 -- a command that passes check 2 in an ACA is of the faulted nexus and asks for attribute ACA, and there is no ACA task
 pub check2-none :

@@ -11,7 +11,7 @@ use borrow.Author.Tests.{lt-ltb, eq-eqb}
 use Rattle.laws.specs.Lists.{one-if, any, count, first}
 use Rattle.laws.proofs.Bools.{not-both, cases}
 use Rattle.laws.proofs.Lists.{any-never}
-use Rattle.rules.specs.Types.{Attribute, Simple, HeadOfQueue, Ordered, Aca, TaskState, Dormant, Enabled, Blocked, Task, Finish, Good, CheckCondition, Event, Management, Condition, Function, AbortTask, AbortTaskSet, PowerOn, Allegiance, Clear, Faulted, Header, Pending, Bit, PowerBit, HardBit, UnitBit, LossBit, ClearedBit, Top, NoBit, Highest, Fate, Stays, Ends, Sweep, OneTask, AllTasks}
+use Rattle.rules.specs.Types.{Attribute, Simple, HeadOfQueue, Ordered, Aca, TaskState, Dormant, Enabled, Blocked, Task, Finish, Good, CheckCondition, Event, Management, Condition, Function, AbortTask, AbortTaskSet, PowerOn, Allegiance, Clear, Faulted, Header, Pending, Bit, PowerBit, HardBit, UnitBit, LossBit, ClearedBit, Top, NoBit, Highest, Fate, Stays, Ends, Sweep, OneTask, AllTasks, FailedTask, Policy, EndAll}
 use Rattle.rules.specs.Tasks.{nexuses, isPlain, same, withState, eligible, enabledIf, settleFrom, blockedIfEnabled, restate, runAfter}
 use Rattle.rules.specs.Bits.{noPending, top, afterPowerOn}
 use Rattle.rules.specs.Rulings.{State, fresh, kept, endIf, fateOf, tellLosersFrom, ruled}
@@ -112,9 +112,20 @@ aborted-is-gone s n g l =
     ends true = refl
     ends false = refl
 
-none-kept : (ts : List Task) → kept (map (fateOf AllTasks) ts) ts ≡ []
-none-kept [] = refl
-none-kept (t ∷ ts) = none-kept ts
+none-kept : (w : Sweep) → ((t : Task) → isEnds (fateOf w t) ≡ true) → (ts : List Task) → kept (map (fateOf w) ts) ts ≡ []
+none-kept w h [] = refl
+none-kept w h (t ∷ ts) = go (fateOf w t) (h t) (none-kept w h ts)
+  where
+    go : (f : Fate) → isEnds f ≡ true → kept (map (fateOf w) ts) ts ≡ [] → kept (f ∷ map (fateOf w) ts) (t ∷ ts) ≡ []
+    go Stays e rest = not-both e refl
+    go (Ends st) e rest = rest
+
+-- "01b every other task": of whichever nexus
+pub qerr-all-empties : (n g : ℕ) (p : Policy) (ts : List Task) → p .qerr ≡ EndAll → kept (map (fateOf (FailedTask n g p)) ts) ts ≡ []
+qerr-all-empties n g p ts e =
+    none-kept (FailedTask n g p)
+    (λ t. rw e (cases (λ f. isEnds f ≡ true) (same n g t) (λ s. refl) (λ s. refl)))
+    ts
 
 all-power : (ps : List Pending) → map afterPowerOn ps ≡ replicate (length ps) (afterPowerOn noPending)
 all-power [] = refl
@@ -129,10 +140,10 @@ power-on-fresh s w = λ i. record { header = head i; pending = pend i; tasks = n
     after = settleFrom [] (kept (map (fateOf AllTasks) (s .tasks)) (s .tasks) ++ [])
 
     none-left : after ≡ []
-    none-left = rw (none-kept (s .tasks))
+    none-left = rw (none-kept AllTasks (λ t. refl) (s .tasks))
 
     head : record { policy = s .header .policy; count = length after; aca = Clear; run = 0 } ≡ (fresh (s .header .policy)) .header
-    head = rw (none-kept (s .tasks))
+    head = rw (none-kept AllTasks (λ t. refl) (s .tasks))
 
     pend : map afterPowerOn (s .pending) ≡ replicate nexuses (afterPowerOn noPending)
     pend = all-power (s .pending) ∙ ap (λ n. replicate n (afterPowerOn noPending)) (w .eight)

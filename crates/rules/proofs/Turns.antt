@@ -49,7 +49,7 @@ none-plain u us e h =
     let a : u .attribute ≡ HeadOfQueue = head-is (u .attribute) h in
     rw a (held-back (HeadOfQueue ∷ []) us refl refl (rw a at (o .rest)))
 
-oldest-plain : (u : Task) (us : List Task) → settled [] (u ∷ us) ≡ true → headTask u ≡ false → enabledPlain u ≡ true
+pub oldest-plain : (u : Task) (us : List Task) → settled [] (u ∷ us) ≡ true → headTask u ≡ false → enabledPlain u ≡ true
 oldest-plain u us e h = rw (head-or-plain (u .attribute) (settled-cons [] u us e .ordinary) h, oldest-enabled u us e)
 
 -- an enabled SIMPLE or ORDERED task means that the oldest one is

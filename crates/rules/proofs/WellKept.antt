@@ -221,9 +221,9 @@ fair-enter :
 unfolding newTask
 fair-enter s c p w l =
     enter-cases (FairR s) (s .header) c (any (same (c .nexus) (c .tag)) (s .tasks)) (any acaTask (s .tasks)) p
-    (λ a. fair-sweeping s _ w)
-    (λ a. tt)
-    (λ a b. fair-same s _ (s .header .run) _ w (w .run))
+    (fair-sweeping s _ w)
+    (λ st se. tt)
+    (λ b. fair-same s _ (s .header .run) _ w (w .run))
     λ n1 n2 n4 n5.
     record {
       run = w .run;

@@ -6,8 +6,7 @@
 --                               here; and the pending bits p of its nexus
 --   finish h f t named       := the change when the enabled task t ends by f; named: it is the one whose turn it is
 --   complete h o f named     := the ruling on a completion, by the task o of that nexus and tag, if there is one
---   manage h n f             := the ruling on the function f from nexus n
---   happen h c               := the ruling on a condition
+--   manage h n f, happen h c := the ruling on the function f from nexus n; on a condition
 --   nexusOf e                := the nexus of the event (0 for power on and hard reset)
 --   ruling s e               := the ruling on the event e in the state s
 --   step s e, answer s e, report s e  := the state afterwards, the answer, the ended tasks
@@ -116,8 +115,8 @@ toldByQerr EndAll tas n = toldWithoutTas tas n
 toldByQerr EndNexus tas n = Quiet
 
 -- "An accepted completion of the named task sets run .. Other completions .. leave it." ("Turn rule")
-abbrev pub runNext : Header → Task → Bool → Header
-runNext h t named = withRun h (cond named (runAfter (t .attribute) (h .run)) (h .run))
+abbrev pub runNext : Header → Attribute → Bool → Header
+runNext h a named = withRun h (cond named (runAfter a (h .run)) (h .run))
 
 -- "Then, NACA 1: ACA for that nexus. NACA 0: no new ACA, and if the task had attribute ACA the old one is cleared."
 abbrev pub acaAfter : Task → Allegiance → Allegiance
@@ -126,12 +125,12 @@ acaAfter t a = cond (t .naca) (Faulted (t .nexus)) (cond (acaTask t) Clear a)
 -- "GOOD ends the task. CHECK CONDITION ends it, then QERR .. GOOD on an ACA task leaves the ACA."
 abbrev pub finish : Header → Finish → Task → Bool → Change
 finish h Good t named =
-    record { sweep = OneTask (t .nexus) (t .tag) 0x00; joins = NoTask; header = runNext h t named; notice = Quiet }
+    record { sweep = OneTask (t .nexus) (t .tag) 0x00; joins = NoTask; header = runNext h (t .attribute) named; notice = Quiet }
 finish h CheckCondition t named =
     record {
       sweep = FailedTask (t .nexus) (t .tag) (h .policy);
       joins = NoTask;
-      header = withAca (runNext h t named) (acaAfter t (h .aca));
+      header = withAca (runNext h (t .attribute) named) (acaAfter t (h .aca));
       notice = toldByQerr (h .policy .qerr) (h .policy .tas) (t .nexus);
     }
 
@@ -150,14 +149,16 @@ abbrev pub clearing : Header → ℕ → Allegiance → Ruling
 clearing h n Clear = Keeps Done
 clearing h n (Faulted f) = cond (eqb n f) (Changes Done (sweeping (withAca h Clear) AcaTask)) (Keeps Rejected)
 
+abbrev pub clearingSet : Header → ℕ → Change
+clearingSet h n =
+    record { sweep = ClearedBy n (h .policy); joins = NoTask; header = h; notice = toldWithoutTas (h .policy .tas) n }
+
 -- "ABORT TASK ends that task if present; absent is still done. ABORT TASK SET ends that nexus's tasks and no other (000, 7.3); ACA stays.
 -- CLEAR TASK SET ends all; ACA stays. .. Unknown function: 8."
 unfoldable pub manage : Header → ℕ → Function → Ruling
 manage h n (AbortTask g) = Changes Done (sweeping h (OneTask n g 0xFF))
 manage h n AbortTaskSet = Changes Done (sweeping h (NexusTasks n))
-manage h n ClearTaskSet =
-    Changes Done
-    (record { sweep = ClearedBy n (h .policy); joins = NoTask; header = h; notice = toldWithoutTas (h .policy .tas) n })
+manage h n ClearTaskSet = Changes Done (clearingSet h n)
 manage h n ClearAca = clearing h n (h .aca)
 manage h n LogicalUnitReset = Changes Done (resetting h UnitWasReset)
 manage h n Unknown = Keeps Rejected
@@ -167,13 +168,15 @@ abbrev pub acaWithout : ℕ → Allegiance → Allegiance
 acaWithout n Clear = Clear
 acaWithout n (Faulted f) = cond (eqb n f) Clear (Faulted f)
 
--- "Nexus loss ends that nexus's tasks with FFh, clears ACA if it was faulted, gives it bit 3 and removes its bit 4. Policy survives all."
+-- "Nexus loss ends that nexus's tasks with FFh, clears ACA if it was faulted, gives it bit 3 and removes its bit 4."
+abbrev pub losing : Header → ℕ → Change
+losing h n = record { sweep = NexusTasks n; joins = NoTask; header = withAca h (acaWithout n (h .aca)); notice = NexusLost n }
+
+-- "Policy survives all."
 unfoldable pub happen : Header → Happening → Ruling
 happen h PowerOn = Changes Done (resetting h PowerCameOn)
 happen h HardReset = Changes Done (resetting h HardWasReset)
-happen h (NexusLoss n) =
-    Changes Done
-    (record { sweep = NexusTasks n; joins = NoTask; header = withAca h (acaWithout n (h .aca)); notice = NexusLost n })
+happen h (NexusLoss n) = Changes Done (losing h n)
 
 abbrev pub nexusOf : Event → ℕ
 nexusOf (Command c) = c .nexus

@@ -3,14 +3,13 @@
 --
 --   State                := header, the pending bits of nexus 0 to 7, the tasks from oldest to youngest
 --   withCount, withAca, withRun h x  := the header with another count, allegiance, run
---   isClear a            := no ACA is in effect
---   pendingOf s n        := the pending bits of nexus n
+--   isClear a, pendingOf s n  := no ACA is in effect; the pending bits of nexus n
 --   turn s               := whose turn it is
 --   fresh p              := a fresh set under the policy p
 --   kept fs xs, lost fs xs   := those of xs that stay, and those that end, under the fates fs in their order
 --   abortedBy p n t      := the fate of a task that CLEAR TASK SET or QERR aborts for nexus n under the policy p
 --   fateOf w t, fatesOf s r  := what the sweep w does to the task t; what the ruling r does to each task of s
---   joinsOf r            := the task that joins, as a list of one or none
+--   newcomers j          := the task that joins, as a list of one or none
 --   tellLosersFrom i n ls ps := bit 4 for every nexus but n that has a task among ls; ps are the bits of nexus i and above
 --   noted k ls ps        := the pending bits after the notice k, where the tasks ls ended
 --   answerOf r, ruled s r, reportOf s r  := the answer; the state after the ruling; the ended tasks

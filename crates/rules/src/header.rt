@@ -1,4 +1,11 @@
 // The header's state: policy, task count, ACA and run (document 01, "Bytes").
+use crate::tasks::Attribute;
+ghost use mathlib.Core.Path.{_≡_};
+ghost use mathlib.Core.Bool.{cond};
+ghost use Prim.Native.Nat.{_+_, min};
+ghost use Rattle.rules.specs.Tasks.{runAfter};
+ghost use Rattle.rules.specs.Rulings.{withCount, withAca, withRun};
+ghost use Rattle.rules.specs.Rules.{runNext};
 
 // QERR 00b, 01b and 11b.
 pub enum Qerr {
@@ -23,4 +30,75 @@ pub struct Header {
     pub count: u8,
     pub aca: Allegiance,
     pub run: u8,
+}
+
+impl Header {
+    pub fn with_count(self, n: u8) -> Header
+        ensures { λ r. ⌜ r ≡ withCount self n ⌝ }
+    {
+        let policy = self.policy;
+        let aca = self.aca;
+        Header {
+            policy: policy,
+            count: n,
+            aca: aca,
+            run: self.run,
+        }
+    }
+
+    pub fn with_aca(self, aca: Allegiance) -> Header
+        ensures { λ r. ⌜ r ≡ withAca self aca ⌝ }
+    {
+        let policy = self.policy;
+        Header {
+            policy: policy,
+            count: self.count,
+            aca: aca,
+            run: self.run,
+        }
+    }
+
+    pub fn with_run(self, run: u8) -> Header
+        ensures { λ r. ⌜ r ≡ withRun self run ⌝ }
+    {
+        let policy = self.policy;
+        let aca = self.aca;
+        Header {
+            policy: policy,
+            count: self.count,
+            aca: aca,
+            run: run,
+        }
+    }
+
+    // "An accepted completion of the named task sets run .. Other completions .. leave it."
+    pub fn run_next(self, a: Attribute, named: bool) -> Header
+        ensures { λ r. ⌜ r ≡ runNext self a named ⌝ }
+    {
+        self.with_run(run_if(named, run_after(a, self.run), self.run))
+    }
+}
+
+// "the smaller of run + 1 and 4"
+fn run_up(run: u8) -> u8
+    ensures { λ r. ⌜ r ≡ min (run + 1) 4 ⌝ }
+{
+    if run < 4 { run + 1 } else { 4 }
+}
+
+pub fn run_after(a: Attribute, run: u8) -> u8
+    ensures { λ r. ⌜ r ≡ runAfter a run ⌝ }
+{
+    match a {
+        Attribute::HeadOfQueue => run_up(run),
+        Attribute::Simple => 0,
+        Attribute::Ordered => 0,
+        Attribute::Aca => run,
+    }
+}
+
+fn run_if(named: bool, after: u8, run: u8) -> u8
+    ensures { λ r. ⌜ r ≡ cond named after run ⌝ }
+{
+    if named { after } else { run }
 }

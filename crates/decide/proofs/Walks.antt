@@ -1,0 +1,123 @@
+-- What code computes task by task is what the rules say of the whole list.
+use Prim.Native.Nat.{ℕ}
+use mathlib.Core.Bool.{Bool, true, false, cond, _||_, _&&_, not}
+use mathlib.Core.Path.{_≡_, refl, ap, sym, _∙_}
+use mathlib.Core.List.{List, [], _∷_}
+use mathlib.Core.Option.{Option, none, some}
+use lib.Dec.{eqb, ltb}
+use Rattle.laws.specs.Lists.{any, first, isNil}
+use Rattle.laws.proofs.Bools.{and-false, or-on, not-both, split}
+use Rattle.rules.specs.Tasks.{holdsBack, eligible, enabledIf, withState, settleFrom, enabledTask, enabledHead, enabledPlain, named, turnOf}
+use Rattle.rules.specs.Well.{settledTask, heldTask, settled, held, statesFit}
+use Rattle.rules.proofs.Settled.{headTask, settled-cons, enabled-head, oldest-enabled}
+use Rattle.rules.proofs.Turns.{none-plain, oldest-plain}
+use Rattle.decide.specs.Types.{Attribute, Simple, HeadOfQueue, Ordered, Aca, Task, Allegiance, Clear, Faulted, Turn, Older, Found, Nowhere, Here}
+use Rattle.decide.specs.Walks.{noOlder, behindBy, eligibleBy, fitsBy, settledBy, fitBy}
+use Rattle.decide.specs.Searches.{isHere, foundIn, taskIn, chosen, turnFound}
+
+-- Older tasks in two bits ------------------------------------------------------------------------------------------------------------------
+
+abbrev pub olderOf : List Attribute → Older
+olderOf [] = noOlder
+olderOf (a ∷ older) = behindBy a (olderOf older)
+
+any-bit : (older : List Attribute) → (olderOf older) .any ≡ any (holdsBack Ordered) older
+any-bit [] = refl
+any-bit (Simple ∷ older) = refl
+any-bit (HeadOfQueue ∷ older) = refl
+any-bit (Ordered ∷ older) = refl
+any-bit (Aca ∷ older) = refl
+
+barrier-bit : (older : List Attribute) → (olderOf older) .barrier ≡ any (holdsBack Simple) older
+barrier-bit [] = refl
+barrier-bit (Simple ∷ older) = barrier-bit older
+barrier-bit (HeadOfQueue ∷ older) = refl
+barrier-bit (Ordered ∷ older) = refl
+barrier-bit (Aca ∷ older) = barrier-bit older
+
+never-back : (a : Attribute) (older : List Attribute) → ((o : Attribute) → holdsBack a o ≡ false) → any (holdsBack a) older ≡ false
+never-back a [] h = refl
+never-back a (o ∷ older) h = rw (h o) (never-back a older h)
+
+pub eligible-bits : (older : List Attribute) (a : Attribute) → eligibleBy (olderOf older) a ≡ eligible older a
+eligible-bits older Simple = ap not (barrier-bit older)
+eligible-bits older HeadOfQueue = sym (ap not (never-back HeadOfQueue older (λ o. refl)))
+eligible-bits older Ordered = ap not (any-bit older)
+eligible-bits older Aca = sym (ap not (never-back Aca older (λ o. refl)))
+
+settled-bits : (older : List Attribute) (ts : List Task) → settledBy (olderOf older) ts ≡ settleFrom older ts
+settled-bits older [] = refl
+settled-bits older (t ∷ ts) =
+    rw (eligible-bits older (t .attribute))
+    (ap (λ (l : List Task). withState t (enabledIf (eligible older (t .attribute))) ∷ l) (settled-bits (t .attribute ∷ older) ts))
+
+-- settling
+pub settled-walk : (ts : List Task) → settledBy noOlder ts ≡ settleFrom [] ts
+settled-walk ts = settled-bits [] ts
+
+fit-settled : (older : List Attribute) (ts : List Task) → fitBy Clear (olderOf older) ts ≡ settled older ts
+fit-settled older [] = refl
+fit-settled older (t ∷ ts) =
+    rw (eligible-bits older (t .attribute))
+    (ap (λ (b : Bool). settledTask (eligible older (t .attribute)) (t .attribute) (t .state) && b)
+    (fit-settled (t .attribute ∷ older) ts))
+
+fit-held : (f : ℕ) (older : List Attribute) (ts : List Task) → fitBy (Faulted f) (olderOf older) ts ≡ held f older ts
+fit-held f older [] = refl
+fit-held f older (t ∷ ts) =
+    rw (eligible-bits older (t .attribute))
+    (ap (λ (b : Bool).
+    heldTask (isNil ts) (eligible older (t .attribute)) (eqb (t .nexus) f) (t .attribute) (t .state) && b)
+    (fit-held f (t .attribute ∷ older) ts))
+
+-- the states fit
+pub fit-walk : (aca : Allegiance) (ts : List Task) → fitBy aca noOlder ts ≡ statesFit aca ts
+fit-walk Clear ts = fit-settled [] ts
+fit-walk (Faulted f) ts = fit-held f [] ts
+
+-- Searches -----------------------------------------------------------------------------------------------------------------------------------
+
+pub here-any : (p : Task → Bool) (ts : List Task) → isHere (foundIn (first p ts)) ≡ any p ts
+here-any p [] = refl
+here-any p (t ∷ ts) = go (p t) (here-any p ts)
+  where
+    go : (b : Bool) → isHere (foundIn (first p ts)) ≡ any p ts → isHere (foundIn (cond b (some t) (first p ts))) ≡ b || any p ts
+    go true e = refl
+    go false e = e
+
+pub task-found : (o : Option Task) → taskIn (foundIn o) ≡ o
+task-found none = refl
+task-found (some t) = refl
+
+pub turn-found : (o : Option Task) → turnFound (foundIn o) ≡ turnOf o
+turn-found none = refl
+turn-found (some t) = refl
+
+-- where no HEAD OF QUEUE task is due, the oldest enabled task is the oldest enabled SIMPLE or ORDERED one
+else-found :
+    (run : ℕ) (ts : List Task) → settled [] ts ≡ true → any enabledHead ts && (ltb run 4 || not (any enabledPlain ts)) ≡ false
+    → first enabledTask ts ≡ first enabledPlain ts
+else-found run [] e b = refl
+else-found run (u ∷ us) e b =
+    split (headTask u)
+    (λ y.
+    let k : any enabledHead (u ∷ us) ≡ true = rw (enabled-head [] u us (settled-cons [] u us e) y) in
+    not-both (rw (none-plain u us e y) (or-on (ltb run 4)))
+    (and-false (any enabledHead (u ∷ us)) (ltb run 4 || not (any enabledPlain (u ∷ us))) b k))
+    (λ y. rw (oldest-plain u us e y, oldest-enabled u us e))
+
+-- the choice of two searches is the turn rule's
+pub chosen-named :
+    (run : ℕ) (ts : List Task) → settled [] ts ≡ true
+    → turnFound (chosen (foundIn (first enabledHead ts)) (foundIn (first enabledPlain ts)) run) ≡ turnOf (named Clear run ts)
+unfolding named
+chosen-named run ts e =
+    rw (here-any enabledHead ts, here-any enabledPlain ts)
+    (go (any enabledHead ts && (ltb run 4 || not (any enabledPlain ts))) refl)
+  where
+    go :
+        (b : Bool) → any enabledHead ts && (ltb run 4 || not (any enabledPlain ts)) ≡ b
+        → turnFound (cond b (foundIn (first enabledHead ts)) (foundIn (first enabledPlain ts)))
+        ≡ turnOf (cond b (first enabledHead ts) (first enabledTask ts))
+    go true q = turn-found (first enabledHead ts)
+    go false q = turn-found (first enabledPlain ts) ∙ ap turnOf (sym (else-found run ts e q))

@@ -1,0 +1,18 @@
+use borrow.Author.Needs.{needs}
+use Rattle.decide.proofs.pending.sense_for.Statement.{statement}
+use Rattle.decide.proofs.pending.sense_for.Tie as tie
+
+pub sense-for-spec : {M : Type 1} → statement M
+sense-for-spec =
+    tie.close
+    (tie.spec
+    (λ c. search needs)
+    (λ c. search needs)
+    (λ c. search needs)
+    (λ c. search needs)
+    (λ c. search needs)
+    (λ c. simp (c .enum-told .given .1, c .before .match .keys1))
+    (λ c. simp (c .enum-told2 .given .1, c .before .match .keys2))
+    (λ c. simp (c .enum-told3 .given .1, c .before .match .keys3))
+    (λ c. simp (c .enum-told4 .given .1, c .before .match .keys4))
+    (λ c. simp (c .enum-told5 .given .1, c .before .match .keys5)))

@@ -1,0 +1,16 @@
+use borrow.Author.Needs.{needs}
+use Rattle.judge.proofs.ending.clear_aca.Statement.{statement}
+use Rattle.judge.proofs.ending.clear_aca.Tie as tie
+use borrow.Author.Tests.{eq-eqb, ne-eqb}
+
+pub clear-aca-spec : {M : Type 1} → statement M
+clear-aca-spec =
+    tie.close
+    (tie.spec
+    (λ c. search needs)
+    (λ c. search needs)
+    (λ c κs. search needs)
+    (λ c κs. search needs)
+    (λ c. simp (c .enum-told .given .1, c .before .match .keys1))
+    (λ c. simp (c .sweeping-by .ensures, c .before .with-aca .ensures, eq-eqb _ _ (c .before .before .if1 .taken), c .before .before .before .known-told .given .1, c .before .before .before .before .aca .given .1, c .before .before .before .before .before .match .keys2))
+    (λ c. simp (ne-eqb _ _ (c .if1 .left), c .before .known-told .given .1, c .before .before .aca .given .1, c .before .before .before .match .keys2)))

@@ -1,0 +1,19 @@
+use borrow.Author.Needs.{needs}
+use Rattle.judge.proofs.ending.happen.Statement.{statement}
+use Rattle.judge.proofs.ending.happen.Tie as tie
+use Rattle.rules.specs.Rules.{happen}
+
+pub happen-spec : {M : Type 1} → statement M
+unfolding happen
+happen-spec =
+    tie.close
+    (tie.spec
+    (λ c. search needs)
+    (λ c κs. search needs)
+    (λ c. search needs)
+    (λ c κs. search needs)
+    (λ c. search needs)
+    (λ c κs. search needs)
+    (λ c. simp (c .reset .ensures, c .before .enum-told .given .1, c .before .before .match .keys1))
+    (λ c. simp (c .reset2 .ensures, c .before .enum-told2 .given .1, c .before .before .match .keys2))
+    (λ c. simp (c .lose-nexus .ensures, c .before .known-told .given .1, c .before .before .c .given .1, c .before .before .before .match .keys3)))

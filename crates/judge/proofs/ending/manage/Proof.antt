@@ -1,0 +1,27 @@
+use borrow.Author.Needs.{needs}
+use Rattle.judge.proofs.ending.manage.Statement.{statement}
+use Rattle.judge.proofs.ending.manage.Tie as tie
+use Rattle.rules.specs.Rules.{manage}
+
+pub manage-spec : {M : Type 1} → statement M
+unfolding manage
+manage-spec =
+    tie.close
+    (tie.spec
+    (λ c. search needs)
+    (λ c κs. search needs)
+    (λ c. search needs)
+    (λ c κs. search needs)
+    (λ c. search needs)
+    (λ c κs. search needs)
+    (λ c. search needs)
+    (λ c κs. search needs)
+    (λ c. search needs)
+    (λ c κs. search needs)
+    (λ c. search needs)
+    (λ c. simp (c .sweeping-by .ensures, c .before .known-told .given .1, c .before .before .f .given .1, c .before .before .before .match .keys1))
+    (λ c. simp (c .sweeping-by2 .ensures, c .before .enum-told .given .1, c .before .before .match .keys2))
+    (λ c. simp (c .clear-task-set .ensures, c .before .enum-told2 .given .1, c .before .before .match .keys3))
+    (λ c. simp (c .clear-aca .ensures, c .before .enum-told3 .given .1, c .before .before .match .keys4))
+    (λ c. simp (c .reset .ensures, c .before .enum-told4 .given .1, c .before .before .match .keys5))
+    (λ c. simp (c .enum-told5 .given .1, c .before .match .keys6)))

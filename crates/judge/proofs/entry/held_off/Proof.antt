@@ -1,0 +1,12 @@
+use borrow.Author.Needs.{needs}
+use Rattle.judge.proofs.entry.held_off.Statement.{statement}
+use Rattle.judge.proofs.entry.held_off.Tie as tie
+
+pub held-off-spec : {M : Type 1} → statement M
+held-off-spec =
+    tie.close
+    (tie.spec
+    (λ c. search needs)
+    (λ c. search needs)
+    (λ c. search needs)
+    (λ c. simp (c .known-told .given .1, c .before .aca .given .1, c .before .before .match .keys2)))

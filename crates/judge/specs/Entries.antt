@@ -1,0 +1,35 @@
+-- The checks at entry, as code asks them.
+--
+--   heldOff aca n asks has   := check 2 stops a command of nexus n; asks: for attribute ACA; has: there is an ACA task
+--   heldStatus aca n naca    := the status that it gives
+--   reporting h n b          := the ruling of check 3 on the bit b of nexus n
+--   lastChecks h c           := checks 4 to 6
+--   checksPastAca h c p      := checks 3 to 6
+use Prim.Native.Nat.{ℕ}
+use mathlib.Core.Bool.{Bool, true, false, cond, _||_, _&&_, not}
+use mathlib.Core.List.{List, [], _∷_}
+use lib.Dec.{eqb}
+use Rattle.rules.specs.Bits.{top, senseFor}
+use Rattle.rules.specs.Rules.{check3, check4, check5, accepting, decide}
+use Rattle.judge.specs.Types.{Entry, Allegiance, Clear, Faulted, Header, Pending, Bit, NoBit, EndedAtEntry, Done, Nobody, NoTask, Reported, Ruling, Changes}
+
+abbrev pub heldOff : Allegiance → ℕ → Bool → Bool → Bool
+heldOff Clear n asks has = false
+heldOff (Faulted f) n asks has = not (eqb n f && asks && not has)
+
+abbrev pub heldStatus : Allegiance → ℕ → Bool → ℕ
+heldStatus Clear n naca = 0x30
+heldStatus (Faulted f) n naca = cond (eqb n f || naca) 0x30 0x08
+
+abbrev pub reporting : Header → ℕ → Bit → Ruling
+reporting h n b =
+    Changes (EndedAtEntry 0x02 (senseFor b)) (record { sweep = Nobody; joins = NoTask; header = h; notice = Reported n b })
+
+unfoldable pub lastChecks : Header → Entry → Ruling
+lastChecks h c = decide (check4 (h .aca) c ∷ check5 h ∷ []) (Changes Done (accepting h c))
+
+unfoldable pub checksPastAca : Header → Entry → Pending → Ruling
+checksPastAca h c p =
+    decide
+    (check3 h (c .nexus) (cond (c .exempt) NoBit (top p)) ∷ check4 (h .aca) c ∷ check5 h ∷ [])
+    (Changes Done (accepting h c))
