@@ -1,0 +1,180 @@
+-- The writing of a well-formed state is a good table; and the test of a good table holds exactly if the paper's words do.
+use Prim.Native.Nat.{ℕ, zero, suc, _+_, _-_, _*_, _≤_, _<_}
+use mathlib.Core.Bool.{Bool, true, false, _&&_, not}
+use mathlib.Core.Path.{_≡_, refl, ap, sym, _∙_}
+use mathlib.Core.List.{List, [], _∷_, _++_}
+use mathlib.Core.Logic.{_↔_}
+use native.Mathlib.Omega.{arith}
+use native.Mathlib.Numerals.{add-one}
+use native.Mathlib.Nat.{zero-add}
+use lib.Dec.{eqb, ltb, leb}
+use lib.ListN.{length, getD, take, drop}
+use lib.Seq.{drop-drop, drop-at}
+use borrow.Author.Tests.{eq-eqb, ltb-true, lt-ltb, le-leb, leb-false}
+use Rattle.laws.specs.Lists.{any}
+use Rattle.laws.specs.Records.{recordAt, joined}
+use Rattle.laws.proofs.Bools.{and-true, or-false}
+use Rattle.rules.specs.Rulings.{State}
+use Rattle.rules.specs.Well.{WellFormed, wellFormed, faultFits, tooHigh}
+use Rattle.rules.proofs.WellKept.{Tested, from-tested}
+use Rattle.rules.proofs.WellSays.{well-formed-says, says-tested}
+use Rattle.records.specs.Types.{Attribute, Simple, HeadOfQueue, Ordered, Aca, TaskState, Dormant, Enabled, Blocked, Task, Qerr, EndNone, EndAll, EndNexus, Policy, Allegiance, Clear, Faulted, Pending, Header}
+use Rattle.records.specs.Numbers.{flag, attributeNumber, attributeFits, stateNumber, stateFits, acaNumber, policyNumber, policyFits, pendingNumber, pendingFits}
+use Rattle.records.specs.Records.{headerBytes, headerFits, nexusBytes, nexusFits, taskBytes, taskFits, unusedBytes, unusedFits}
+use Rattle.records.specs.Tables.{Bytes, stateOf, nexusRecords, unusedRecords, taskRecords, tableBytes, GoodTable, nexusesFit, tasksFit, unusedFit, goodTable}
+use Rattle.records.proofs.Values.{pending-fits}
+use Rattle.records.proofs.Written.{state-back-again, length-joined, length-table, table-header, table-count, table-behind-header, table-tasks, behind-used}
+use Rattle.records.proofs.Good.{TableTested, table-tested, tested-table, table-good}
+
+-- What is written fits ---------------------------------------------------------------------------------------------------------------------
+
+policy-fits : (p : Policy) → policyFits (policyNumber p) ≡ true
+policy-fits p = go (p .qerr) (p .tas)
+  where
+    go : (q : Qerr) (t : Bool) → policyFits (policyNumber (record { qerr = q; tas = t })) ≡ true
+    go EndNone true = refl
+    go EndNone false = refl
+    go EndAll true = refl
+    go EndAll false = refl
+    go EndNexus true = refl
+    go EndNexus false = refl
+
+aca-fits : (a : Allegiance) → faultFits a ≡ true → acaNumber a ≤ 8
+aca-fits Clear e = omega arith
+aca-fits (Faulted f) e = omega (arith, ltb-true f 8 e)
+
+header-fits : (h : Header) → h .count ≤ 64 → faultFits (h .aca) ≡ true → h .run ≤ 4 → headerFits (headerBytes h) ≡ true
+header-fits h c f r =
+    rw (policy-fits (h .policy), le-leb (h .count) 64 c, le-leb (acaNumber (h .aca)) 8 (aca-fits (h .aca) f), le-leb (h .run) 4 r)
+
+nexuses-fit : (i : ℕ) (ps : List Pending) (rest : List ℕ) → nexusesFit i (length ps) (nexusRecords i ps ++ rest) ≡ true
+unfolding nexusesFit nexusRecords
+nexuses-fit i [] rest = refl
+nexuses-fit i (p ∷ ps) rest =
+    rw (pending-fits p, eq-eqb i i refl, add-one) (nexuses-fit (suc i) ps rest)
+
+attribute-fits : (a : Attribute) → attributeFits (attributeNumber a) ≡ true
+attribute-fits Simple = refl
+attribute-fits HeadOfQueue = refl
+attribute-fits Ordered = refl
+attribute-fits Aca = refl
+
+state-fits : (st : TaskState) → stateFits (stateNumber st) ≡ true
+state-fits Dormant = refl
+state-fits Enabled = refl
+state-fits Blocked = refl
+
+flag-fits : (b : Bool) → ltb (flag b) 2 ≡ true
+flag-fits true = refl
+flag-fits false = refl
+
+tasks-fit : (ts : List Task) (rest : List ℕ) → any tooHigh ts ≡ false → tasksFit (length ts) (joined taskBytes ts ++ rest) ≡ true
+unfolding tasksFit
+tasks-fit [] rest e = refl
+tasks-fit (t ∷ ts) rest e =
+    let o = or-false (tooHigh t) (any tooHigh ts) e in
+    rw (lt-ltb (t .nexus) 8 (leb-false 8 (t .nexus) (o .0)), flag-fits (t .naca), attribute-fits (t .attribute), state-fits (t .state))
+    (tasks-fit ts rest (o .1))
+
+unused-fit : (n : ℕ) → unusedFit n (unusedRecords n) ≡ true
+unfolding unusedFit unusedRecords
+unused-fit zero = refl
+unused-fit (suc n) = unused-fit n
+
+-- the writing of a well-formed state is a good table
+pub good-written : (s : State) → Tested s → goodTable (tableBytes s) ≡ true
+good-written s w =
+    tested-table (tableBytes s)
+    (record {
+      long = length-table s (w .eight) (w .few);
+      header = rw (table-header s) (header-fits (s .header) (omega (arith, w .few, w .counted)) (w .fault) (w .run));
+      nexuses = rw (table-behind-header s) (ap (λ (n : ℕ). nexusesFit 0 n (nexusRecords 0 (s .pending) ++ taskRecords (s .tasks))) (sym (w .eight)) ∙ nexuses-fit 0 (s .pending) (taskRecords (s .tasks)));
+      used = ap (λ (n : ℕ). tasksFit n (drop 72 (tableBytes s))) count ∙ ap (tasksFit (length (s .tasks))) (table-tasks s (w .eight)) ∙ tasks-fit (s .tasks) (unusedRecords (64 - length (s .tasks))) (w .nexuses);
+      unused =
+          ap (λ (n : ℕ). unusedFit (64 - n) (drop (72 + 8 * n) (tableBytes s))) count
+          ∙ ap (unusedFit (64 - length (s .tasks))) (behind-used s (w .eight))
+          ∙ unused-fit (64 - length (s .tasks));
+      well = rw (state-back-again s (w .counted) (w .eight)) (from-tested s w);
+    })
+  where
+    count : getD (tableBytes s) 4 0 ≡ length (s .tasks)
+    count = table-count s ∙ w .counted
+
+-- a table of bytes is good exactly if it is the writing of a well-formed state
+pub good-is-written : (b : List ℕ) → Bytes b → (goodTable b ≡ true) ↔ (WellFormed (stateOf b) × (tableBytes (stateOf b) ≡ b))
+good-is-written b by = (
+  λ e. (well-formed-says (stateOf b) .0 (table-tested b e .well), table-good b by e),
+  λ w. rw (w .1) at (good-written (stateOf b) (says-tested (stateOf b) (w .0))),
+)
+
+-- The paper's words ------------------------------------------------------------------------------------------------------------------------
+
+-- a walk that tests every record, and what it says of each
+module _ (fit : ℕ → List ℕ → Bool) (walk : ℕ → ℕ → List ℕ → Bool)
+    (none : (i : ℕ) (l : List ℕ) → walk i 0 l ≡ true)
+    (one : (i n : ℕ) (l : List ℕ) → walk i (suc n) l ≡ fit i (take 8 l) && walk (suc i) n (drop 8 l)) where
+  walk-says : (n i : ℕ) (b : List ℕ) (at : ℕ) → walk i n (drop at b) ≡ true → (k : ℕ) → k < n → fit (i + k) (recordAt 8 b (at + 8 * k)) ≡ true
+  walk-says zero i b at e k h = absurd (omega arith)
+  walk-says (suc n) i b at e zero h =
+      let o = and-true (fit i (take 8 (drop at b))) _ (sym (one i n (drop at b)) ∙ e) in
+      rw ((let z : i + 0 ≡ i = omega arith in z), (let z : at + 8 * 0 ≡ at = omega arith in z)) (o .0)
+  walk-says (suc n) i b at e (suc k) h =
+      let o = and-true (fit i (take 8 (drop at b))) _ (sym (one i n (drop at b)) ∙ e) in
+      rw ((let z : i + suc k ≡ suc i + k = omega arith in z), (let z : at + 8 * suc k ≡ at + 8 + 8 * k = omega arith in z))
+      (walk-says n (suc i) b (at + 8) (rw (drop-drop 8 at b) at (o .1)) k (omega arith))
+
+  says-walk :
+      (n i : ℕ) (b : List ℕ) (at : ℕ) → ((k : ℕ) → k < n → fit (i + k) (recordAt 8 b (at + 8 * k)) ≡ true) → walk i n (drop at b) ≡ true
+  says-walk zero i b at h = none i (drop at b)
+  says-walk (suc n) i b at h =
+      one i n (drop at b)
+      ∙ rw (
+        (let z : _≡_ {A = Bool} (fit i (take 8 (drop at b))) true = rw ((let z : i + 0 ≡ i = omega arith in z), (let z : at + 8 * 0 ≡ at = omega arith in z)) at (h 0 (omega arith)) in z),
+        drop-drop 8 at b,
+      )
+      (says-walk n (suc i) b (at + 8)
+      (λ k l.
+      rw ((let z : i + suc k ≡ suc i + k = omega arith in z), (let z : at + 8 * suc k ≡ at + 8 + 8 * k = omega arith in z)) at (h (suc k) (omega arith))))
+
+-- the test holds exactly if the statement does
+pub good-table-says : (b : List ℕ) → (goodTable b ≡ true) ↔ GoodTable b
+unfolding nexusesFit tasksFit unusedFit
+good-table-says b = (to, from)
+  where
+    n : ℕ
+    n = getD b 4 0
+
+    place : (i : ℕ) → n ≤ i → 72 + 8 * n + 8 * (i - n) ≡ 72 + 8 * i
+    place i l = omega arith
+
+    to : goodTable b ≡ true → GoodTable b
+    to e =
+        let w = table-tested b e in
+        record {
+          long = w .long;
+          header = w .header;
+          nexus = λ i h. rw zero-add at (walk-says nexusFits nexusesFit (λ i l. refl) (λ i n l. rw add-one) 8 0 b 8 (w .nexuses) i h);
+          used = λ i h. walk-says (λ i. taskFits) (λ i. tasksFit) (λ i l. refl) (λ i n l. refl) n 0 b 72 (w .used) i h;
+          unused =
+              λ i l h.
+              rw (place i l) at
+              (walk-says (λ i. unusedFits) (λ i. unusedFit) (λ i l. refl) (λ i n l. refl) (64 - n) 0 b (72 + 8 * n) (w .unused) (i - n)
+              (omega arith));
+          well = well-formed-says (stateOf b) .0 (w .well);
+        }
+
+    from : GoodTable b → goodTable b ≡ true
+    from w =
+        tested-table b
+        (record {
+          long = w .long;
+          header = w .header;
+          nexuses = says-walk nexusFits nexusesFit (λ i l. refl) (λ i n l. rw add-one) 8 0 b 8 (λ k h. rw zero-add (w .nexus k h));
+          used = says-walk (λ i. taskFits) (λ i. tasksFit) (λ i l. refl) (λ i n l. refl) n 0 b 72 (λ k h. w .used k h);
+          unused =
+              says-walk (λ i. unusedFits) (λ i. unusedFit) (λ i l. refl) (λ i n l. refl) (64 - n) 0 b (72 + 8 * n)
+              (λ k h.
+              let z : 72 + 8 * (n + k) ≡ 72 + 8 * n + 8 * k = omega arith in
+              rw z at (w .unused (n + k) (omega arith) (omega arith)));
+          well = well-formed-says (stateOf b) .1 (w .well);
+        })

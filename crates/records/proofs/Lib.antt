@@ -1,0 +1,6 @@
+pub mod Eight
+pub mod Values
+pub mod Written
+pub mod Good
+pub mod GoodSays
+pub mod TaskRecords

@@ -1,0 +1,82 @@
+-- The number of each value, and the value of each number (document 01, "Bytes").
+--
+--   attributeNumber, stateNumber, acaNumber, qerrNumber, policyNumber, pendingNumber, flag   := the byte of a value
+--   attributeFrom, stateFrom, acaFrom, policyFrom, pendingFrom   := the value of a byte; of one that the tests refuse, any
+--   attributeFits, stateFits, policyFits, pendingFits   := the byte has a value
+--   bitOf n d     := the bit of weight d in n
+--   tagFrom hi lo := a tag from its two bytes, big-endian
+use Prim.Native.Nat.{ℕ, suc, _+_, _-_, _*_, _/_, _%_}
+use mathlib.Core.Bool.{Bool, true, false, cond, _||_, _&&_, not}
+use lib.Dec.{eqb, ltb, leb}
+use Rattle.records.specs.Types.{Attribute, Simple, HeadOfQueue, Ordered, Aca, TaskState, Dormant, Enabled, Blocked, Qerr, EndNone, EndAll, EndNexus, Policy, Allegiance, Clear, Faulted, Pending}
+
+abbrev pub flag : Bool → ℕ
+flag true = 1
+flag false = 0
+
+abbrev pub bitOf : ℕ → ℕ → Bool
+bitOf n d = eqb (n / d % 2) 1
+
+abbrev pub tagFrom : ℕ → ℕ → ℕ
+tagFrom hi lo = hi * 256 + lo
+
+-- "Attributes: 0 SIMPLE, 1 HEAD OF QUEUE, 2 ORDERED, 4 ACA."
+abbrev pub attributeNumber : Attribute → ℕ
+attributeNumber Simple = 0
+attributeNumber HeadOfQueue = 1
+attributeNumber Ordered = 2
+attributeNumber Aca = 4
+
+abbrev pub attributeFits : ℕ → Bool
+attributeFits n = eqb n 0 || eqb n 1 || eqb n 2 || eqb n 4
+
+abbrev pub attributeFrom : ℕ → Attribute
+attributeFrom n = cond (eqb n 0) Simple (cond (eqb n 1) HeadOfQueue (cond (eqb n 2) Ordered Aca))
+
+-- "States: 1 dormant, 2 enabled, 3 blocked."
+abbrev pub stateNumber : TaskState → ℕ
+stateNumber Dormant = 1
+stateNumber Enabled = 2
+stateNumber Blocked = 3
+
+abbrev pub stateFits : ℕ → Bool
+stateFits n = eqb n 1 || eqb n 2 || eqb n 3
+
+abbrev pub stateFrom : ℕ → TaskState
+stateFrom n = cond (eqb n 1) Dormant (cond (eqb n 2) Enabled Blocked)
+
+-- "ACA: 0 or 1 + faulted nexus"
+abbrev pub acaNumber : Allegiance → ℕ
+acaNumber Clear = 0
+acaNumber (Faulted f) = f + 1
+
+abbrev pub acaFrom : ℕ → Allegiance
+acaFrom n = cond (eqb n 0) Clear (Faulted (n - 1))
+
+-- "Policy: bits 0 and 1 are QERR (00b, 01b, 11b; 10b is bad), bit 2 is TAS, the rest 0."
+abbrev pub qerrNumber : Qerr → ℕ
+qerrNumber EndNone = 0
+qerrNumber EndAll = 1
+qerrNumber EndNexus = 3
+
+abbrev pub qerrFrom : ℕ → Qerr
+qerrFrom n = cond (eqb n 0) EndNone (cond (eqb n 1) EndAll EndNexus)
+
+abbrev pub policyNumber : Policy → ℕ
+policyNumber p = qerrNumber (p .qerr) + flag (p .tas) * 4
+
+abbrev pub policyFits : ℕ → Bool
+policyFits n = ltb n 8 && not (eqb (n % 4) 2)
+
+abbrev pub policyFrom : ℕ → Policy
+policyFrom n = record { qerr = qerrFrom (n % 4); tas = bitOf n 4 }
+
+-- "bit 0 power on; bit 1 hard reset; bit 2 logical unit reset; bit 3 I_T nexus loss; bit 4 commands cleared .. Bits 5 to 7 are 0."
+abbrev pub pendingNumber : Pending → ℕ
+pendingNumber p = flag (p .power) + flag (p .hard) * 2 + flag (p .unit) * 4 + flag (p .loss) * 8 + flag (p .cleared) * 16
+
+abbrev pub pendingFits : ℕ → Bool
+pendingFits n = ltb n 32
+
+abbrev pub pendingFrom : ℕ → Pending
+pendingFrom n = record { power = bitOf n 1; hard = bitOf n 2; unit = bitOf n 4; loss = bitOf n 8; cleared = bitOf n 16 }

@@ -1,0 +1,96 @@
+-- The records of document 01, "Bytes": written, read, and tested.
+--
+--   headSize, nexusSize, taskSize  := the widths of the records
+--   marked r m            := the record opens with 54h and the mark m
+--   headerBytes h, nexusBytes i p, taskBytes t, unusedBytes, endedBytes e   := the record of a value
+--   headerFrom r, pendingIn r, taskFrom r   := the value of a record; of one that the tests refuse, any
+--   headerFits r, nexusFits i r, taskFits r, unusedFits r   := the record is one of its kind, field by field
+use Prim.Native.Nat.{ℕ, _+_, _/_, _%_}
+use mathlib.Core.Bool.{Bool, true, false, _&&_}
+use mathlib.Core.List.{List, [], _∷_}
+use lib.Dec.{eqb, ltb, leb}
+use lib.ListN.{getD}
+use Rattle.records.specs.Types.{Task, Header, Pending, Ended}
+use Rattle.records.specs.Numbers.{flag, tagFrom, attributeNumber, attributeFits, attributeFrom, stateNumber, stateFits, stateFrom, acaNumber, acaFrom, policyNumber, policyFits, policyFrom, pendingNumber, pendingFits, pendingFrom}
+
+abbrev pub headSize : ℕ
+headSize = 8
+
+abbrev pub nexusSize : ℕ
+nexusSize = 8
+
+abbrev pub taskSize : ℕ
+taskSize = 8
+
+abbrev pub marked : List ℕ → ℕ → Bool
+marked r m = eqb (getD r 0 0) 0x54 && eqb (getD r 1 0) m
+
+-- "header | 54 48 | 01; policy; task count 0 to 64; ACA: 0 or 1 + faulted nexus; run 0 to 4; 0"
+abbrev pub headerBytes : Header → List ℕ
+headerBytes h = 0x54 ∷ 0x48 ∷ 1 ∷ policyNumber (h .policy) ∷ h .count ∷ acaNumber (h .aca) ∷ h .run ∷ 0 ∷ []
+
+abbrev pub headerFrom : List ℕ → Header
+headerFrom r =
+    record { policy = policyFrom (getD r 3 0); count = getD r 4 0; aca = acaFrom (getD r 5 0); run = getD r 6 0 }
+
+abbrev pub headerFits : List ℕ → Bool
+headerFits r =
+    marked r 0x48 && eqb (getD r 2 0) 1 && policyFits (getD r 3 0) && leb (getD r 4 0) 64 && leb (getD r 5 0) 8 && leb (getD r 6 0) 4
+    && eqb (getD r 7 0) 0
+
+-- "nexus | 54 4E | nexus; pending bits; 0 0 0 0"
+abbrev pub nexusBytes : ℕ → Pending → List ℕ
+nexusBytes i p = 0x54 ∷ 0x4E ∷ i ∷ pendingNumber p ∷ 0 ∷ 0 ∷ 0 ∷ 0 ∷ []
+
+abbrev pub pendingIn : List ℕ → Pending
+pendingIn r = pendingFrom (getD r 3 0)
+
+abbrev pub nexusRestFits : ℕ → List ℕ → Bool
+nexusRestFits i r =
+    marked r 0x4E && eqb (getD r 2 0) i && eqb (getD r 4 0) 0 && eqb (getD r 5 0) 0 && eqb (getD r 6 0) 0 && eqb (getD r 7 0) 0
+
+abbrev pub nexusFits : ℕ → List ℕ → Bool
+nexusFits i r = pendingFits (getD r 3 0) && nexusRestFits i r
+
+-- "task | 54 54 | nexus; attribute; state; control (bit 0 NACA); tag, 2 bytes"; "Tags are big-endian."
+abbrev pub taskBytes : Task → List ℕ
+taskBytes t =
+    0x54
+    ∷ 0x54
+    ∷ t .nexus
+    ∷ attributeNumber (t .attribute)
+    ∷ stateNumber (t .state)
+    ∷ flag (t .naca)
+    ∷ t .tag / 256
+    ∷ t .tag % 256
+    ∷ []
+
+abbrev pub taskFrom : List ℕ → Task
+taskFrom r =
+    record {
+      nexus = getD r 2 0;
+      attribute = attributeFrom (getD r 3 0);
+      state = stateFrom (getD r 4 0);
+      naca = eqb (getD r 5 0) 1;
+      tag = tagFrom (getD r 6 0) (getD r 7 0);
+    }
+
+-- "A task's nexus is 0 to 7."; "Bits 1 to 7 of a task's control byte are 0."
+abbrev pub taskRestFits : List ℕ → Bool
+taskRestFits r = marked r 0x54 && attributeFits (getD r 3 0) && stateFits (getD r 4 0)
+
+abbrev pub taskFits : List ℕ → Bool
+taskFits r = ltb (getD r 2 0) 8 && (ltb (getD r 5 0) 2 && taskRestFits r)
+
+-- "Unused ones are 54 54 and six zeros."
+abbrev pub unusedBytes : List ℕ
+unusedBytes = 0x54 ∷ 0x54 ∷ 0 ∷ 0 ∷ 0 ∷ 0 ∷ 0 ∷ 0 ∷ []
+
+abbrev pub unusedFits : List ℕ → Bool
+unusedFits r =
+    marked r 0x54 && eqb (getD r 2 0) 0 && eqb (getD r 3 0) 0 && eqb (getD r 4 0) 0 && eqb (getD r 5 0) 0 && eqb (getD r 6 0) 0
+    && eqb (getD r 7 0) 0
+
+-- "ended | 54 45 | nexus; status; 0 0; tag"
+abbrev pub endedBytes : Ended → List ℕ
+endedBytes e = 0x54 ∷ 0x45 ∷ e .nexus ∷ e .status ∷ 0 ∷ 0 ∷ e .tag / 256 ∷ e .tag % 256 ∷ []

@@ -1,0 +1,113 @@
+-- The table and the report as bytes (document 01, "Bytes").
+--
+--   Bytes l                  := every element of l is below 256
+--   tableSize, reportSize    := 584 and 512 bytes
+--   nexusesAt, tasksAt       := where the nexus records and the task records begin
+--   tasksFrom n l            := the tasks of the first n task records of l
+--   pendingsFrom n l         := the pending bits of the first n nexus records of l
+--   stateOf b                := the state that a table says
+--   nexusRecords i ps        := the records of nexus i and above
+--   unusedRecords n          := n unused task records
+--   tableBytes s             := the table of a state
+--   reportBytes es           := the report of the ended tasks
+--   GoodTable b              := the table is well formed, in the paper's words
+--   goodTable b              := the test of it
+use Prim.Native.Nat.{ℕ, zero, suc, _+_, _-_, _*_, _≤_, _<_}
+use mathlib.Core.Path.{_≡_}
+use mathlib.Core.Bool.{Bool, true, false, _&&_}
+use mathlib.Core.List.{List, [], _∷_, _++_}
+use lib.Dec.{eqb}
+use lib.ListN.{length, getD, take, drop, replicate}
+use Rattle.laws.specs.Records.{recordAt, joined}
+use Rattle.rules.specs.Tasks.{places, nexuses}
+use Rattle.rules.specs.Rulings.{State}
+use Rattle.rules.specs.Well.{WellFormed, wellFormed}
+use Rattle.records.specs.Records.{headSize, nexusSize, taskSize, headerBytes, headerFrom, headerFits, nexusBytes, pendingIn, nexusFits, taskBytes, taskFrom, taskFits, unusedBytes, unusedFits, endedBytes}
+use Rattle.records.specs.Types.{Task, Pending, Ended}
+
+abbrev pub Bytes : List ℕ → Type 0
+Bytes l = (i : ℕ) → getD l i 0 < 256
+
+abbrev pub tableSize : ℕ
+tableSize = 584
+
+abbrev pub reportSize : ℕ
+reportSize = 512
+
+abbrev pub nexusesAt : ℕ
+nexusesAt = 8
+
+abbrev pub tasksAt : ℕ
+tasksAt = 72
+
+-- Reading ----------------------------------------------------------------------------------------------------------------------------------
+
+unfoldable pub tasksFrom : ℕ → List ℕ → List Task
+tasksFrom zero l = []
+tasksFrom (suc n) l = taskFrom (take taskSize l) ∷ tasksFrom n (drop taskSize l)
+
+unfoldable pub pendingsFrom : ℕ → List ℕ → List Pending
+pendingsFrom zero l = []
+pendingsFrom (suc n) l = pendingIn (take nexusSize l) ∷ pendingsFrom n (drop nexusSize l)
+
+abbrev pub countIn : List ℕ → ℕ
+countIn b = getD b 4 0
+
+-- "header, 8 nexus records in order 0 to 7, 64 task records"; "Used task records come first, oldest first."
+unfoldable pub stateOf : List ℕ → State
+stateOf b =
+    record {
+      header = headerFrom (recordAt headSize b 0);
+      pending = pendingsFrom nexuses (drop nexusesAt b);
+      tasks = tasksFrom (countIn b) (drop tasksAt b);
+    }
+
+-- Writing ----------------------------------------------------------------------------------------------------------------------------------
+
+unfoldable pub nexusRecords : ℕ → List Pending → List ℕ
+nexusRecords i [] = []
+nexusRecords i (p ∷ ps) = nexusBytes i p ++ nexusRecords (suc i) ps
+
+unfoldable pub unusedRecords : ℕ → List ℕ
+unusedRecords zero = []
+unusedRecords (suc n) = unusedBytes ++ unusedRecords n
+
+abbrev pub taskRecords : List Task → List ℕ
+taskRecords ts = joined taskBytes ts ++ unusedRecords (places - length ts)
+
+unfoldable pub tableBytes : State → List ℕ
+tableBytes s = headerBytes (s .header) ++ (nexusRecords 0 (s .pending) ++ taskRecords (s .tasks))
+
+-- "Report: 512 bytes, the tasks ended by this event in their former age order, then zeros to the end."
+unfoldable pub reportBytes : List Ended → List ℕ
+reportBytes es = joined endedBytes es ++ replicate (reportSize - taskSize * length es) 0
+
+-- Well formed ------------------------------------------------------------------------------------------------------------------------------
+
+pub record GoodTable (b : List ℕ) : Type 0 where
+  pub long : length b ≡ 584
+  pub header : headerFits (recordAt headSize b 0) ≡ true
+  pub nexus : (i : ℕ) → i < 8 → nexusFits i (recordAt nexusSize b (nexusesAt + nexusSize * i)) ≡ true
+  pub used : (i : ℕ) → i < countIn b → taskFits (recordAt taskSize b (tasksAt + taskSize * i)) ≡ true
+  pub unused : (i : ℕ) → countIn b ≤ i → i < 64 → unusedFits (recordAt taskSize b (tasksAt + taskSize * i)) ≡ true
+  pub well : WellFormed (stateOf b)
+
+unfoldable pub nexusesFit : ℕ → ℕ → List ℕ → Bool
+nexusesFit i zero l = true
+nexusesFit i (suc n) l = nexusFits i (take nexusSize l) && nexusesFit (i + 1) n (drop nexusSize l)
+
+unfoldable pub tasksFit : ℕ → List ℕ → Bool
+tasksFit zero l = true
+tasksFit (suc n) l = taskFits (take taskSize l) && tasksFit n (drop taskSize l)
+
+unfoldable pub unusedFit : ℕ → List ℕ → Bool
+unusedFit zero l = true
+unusedFit (suc n) l = unusedFits (take taskSize l) && unusedFit n (drop taskSize l)
+
+unfoldable pub goodTable : List ℕ → Bool
+goodTable b =
+    eqb (length b) tableSize
+    && (headerFits (recordAt headSize b 0)
+    && (nexusesFit 0 nexuses (drop nexusesAt b)
+    && (tasksFit (countIn b) (drop tasksAt b)
+    && (unusedFit (places - countIn b) (drop (tasksAt + taskSize * countIn b) b) && wellFormed (stateOf b)))))

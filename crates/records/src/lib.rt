@@ -1,0 +1,6 @@
+// Records of bytes to values and back.
+pub mod bytes;
+pub mod events;
+pub mod header;
+pub mod nexus;
+pub mod tasks;

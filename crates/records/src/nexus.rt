@@ -1,0 +1,52 @@
+// The nexus records: pending bits.
+use crate::bytes::bit_of;
+use crate::bytes::flag_byte;
+use crate::bytes::is_marked;
+use rules::Pending;
+ghost use mathlib.Core.Path.{_≡_};
+ghost use Rattle.records.specs.Numbers.{pendingNumber, pendingFrom};
+ghost use Rattle.records.specs.Records.{nexusBytes, nexusRestFits, nexusFits};
+
+pub fn pending_from(n: u8) -> Pending
+    ensures { λ y. ⌜ y ≡ pendingFrom n ⌝ }
+{
+    Pending {
+        power: bit_of(n, 1),
+        hard: bit_of(n, 2),
+        unit: bit_of(n, 4),
+        loss: bit_of(n, 8),
+        cleared: bit_of(n, 16),
+    }
+}
+
+pub fn pending_number(p: Pending) -> u8
+    ensures { λ y. ⌜ y ≡ pendingNumber p ⌝ }
+{
+    flag_byte(p.power)
+        + flag_byte(p.hard) * 2
+        + flag_byte(p.unit) * 4
+        + flag_byte(p.loss) * 8
+        + flag_byte(p.cleared) * 16
+}
+
+fn rest_fits(r: [u8; 8], n: u8) -> bool
+    ensures { λ y. ⌜ y ≡ nexusRestFits n r ⌝ }
+{
+    is_marked(r, 0x4E) & (r[2] == n) & (r[4] == 0) & (r[5] == 0) & (r[6] == 0) & (r[7] == 0)
+}
+
+// The range first: joined to the equalities it is compiled badly.
+pub fn nexus_fits(r: [u8; 8], n: u8) -> bool
+    ensures { λ y. ⌜ y ≡ nexusFits n r ⌝ }
+{
+    if 32 <= r[3] {
+        return false;
+    }
+    rest_fits(r, n)
+}
+
+pub fn nexus_bytes(n: u8, p: Pending) -> [u8; 8]
+    ensures { λ y. ⌜ y ≡ nexusBytes n p ⌝ }
+{
+    [0x54, 0x4E, n, pending_number(p), 0, 0, 0, 0]
+}

@@ -1,0 +1,140 @@
+// Task records, used and unused, and ended ones.
+use crate::bytes::flag_byte;
+use crate::bytes::is_marked;
+use crate::bytes::tag_from;
+use crate::bytes::tag_high;
+use crate::bytes::tag_low;
+use rules::Attribute;
+use rules::Tag;
+use rules::Task;
+use rules::TaskState;
+ghost use mathlib.Core.Path.{_≡_};
+ghost use Rattle.records.specs.Numbers.{attributeNumber, attributeFits, attributeFrom, stateNumber, stateFits, stateFrom};
+ghost use Rattle.records.specs.Records.{taskBytes, taskFrom, taskFits, taskRestFits, unusedFits, unusedBytes, endedBytes};
+
+pub fn attribute_fits(n: u8) -> bool
+    ensures { λ y. ⌜ y ≡ attributeFits n ⌝ }
+{
+    (n == 0) | (n == 1) | (n == 2) | (n == 4)
+}
+
+pub fn attribute_from(n: u8) -> Attribute
+    ensures { λ y. ⌜ y ≡ attributeFrom n ⌝ }
+{
+    match n {
+        0 => Attribute::Simple,
+        1 => Attribute::HeadOfQueue,
+        2 => Attribute::Ordered,
+        _ => Attribute::Aca,
+    }
+}
+
+fn attribute_number(a: Attribute) -> u8
+    ensures { λ y. ⌜ y ≡ attributeNumber a ⌝ }
+{
+    match a {
+        Attribute::Simple => 0,
+        Attribute::HeadOfQueue => 1,
+        Attribute::Ordered => 2,
+        Attribute::Aca => 4,
+    }
+}
+
+fn state_fits(n: u8) -> bool
+    ensures { λ y. ⌜ y ≡ stateFits n ⌝ }
+{
+    (n == 1) | (n == 2) | (n == 3)
+}
+
+pub fn state_from(n: u8) -> TaskState
+    ensures { λ y. ⌜ y ≡ stateFrom n ⌝ }
+{
+    match n {
+        1 => TaskState::Dormant,
+        2 => TaskState::Enabled,
+        _ => TaskState::Blocked,
+    }
+}
+
+pub fn state_number(s: TaskState) -> u8
+    ensures { λ y. ⌜ y ≡ stateNumber s ⌝ }
+{
+    match s {
+        TaskState::Dormant => 1,
+        TaskState::Enabled => 2,
+        TaskState::Blocked => 3,
+    }
+}
+
+fn rest_fits(r: [u8; 8]) -> bool
+    ensures { λ y. ⌜ y ≡ taskRestFits r ⌝ }
+{
+    is_marked(r, 0x54) & attribute_fits(r[3]) & state_fits(r[4])
+}
+
+// The ranges first: joined to the equalities they are compiled badly.
+pub fn task_fits(r: [u8; 8]) -> bool
+    ensures { λ y. ⌜ y ≡ taskFits r ⌝ }
+{
+    if 8 <= r[2] {
+        return false;
+    }
+    if 2 <= r[5] {
+        return false;
+    }
+    rest_fits(r)
+}
+
+pub fn task_from(r: [u8; 8]) -> Task
+    ensures { λ y. ⌜ y ≡ taskFrom r ⌝ }
+{
+    Task {
+        nexus: r[2],
+        attribute: attribute_from(r[3]),
+        state: state_from(r[4]),
+        naca: r[5] == 1,
+        tag: tag_from(r[6], r[7]),
+    }
+}
+
+pub fn task_bytes(t: Task) -> [u8; 8]
+    ensures { λ y. ⌜ y ≡ taskBytes t ⌝ }
+{
+    let a = t.attribute;
+    let s = t.state;
+    [
+        0x54,
+        0x54,
+        t.nexus,
+        attribute_number(a),
+        state_number(s),
+        flag_byte(t.naca),
+        tag_high(t.tag),
+        tag_low(t.tag),
+    ]
+}
+
+pub fn unused_fits(r: [u8; 8]) -> bool
+    ensures { λ y. ⌜ y ≡ unusedFits r ⌝ }
+{
+    is_marked(r, 0x54)
+        & (r[2] == 0)
+        & (r[3] == 0)
+        & (r[4] == 0)
+        & (r[5] == 0)
+        & (r[6] == 0)
+        & (r[7] == 0)
+}
+
+pub fn unused_bytes() -> [u8; 8]
+    ensures { λ y. ⌜ y ≡ unusedBytes ⌝ }
+{
+    [0x54, 0x54, 0, 0, 0, 0, 0, 0]
+}
+
+// The ended record of a task, by its nexus, the status to send and its tag.
+pub fn ended_bytes(n: u8, status: u8, g: Tag) -> [u8; 8]
+    ensures { λ y. ⌜ y ≡ endedBytes (record { nexus = n; status = status; tag = g }) ⌝ }
+{
+    [0x54, 0x45, n, status, 0, 0, tag_high(g), tag_low(g)]
+}
