@@ -1,0 +1,85 @@
+use borrow.Author.Needs.{needs}
+use borrow.Author.Tests.{not-true, not-false}
+use mathlib.Core.Path.{_≡_}
+use Prim.Native.Nat.{_≤_, _-_, _+_, _*_}
+use native.Mathlib.Omega.{arith}
+use lib.ListN.{drop}
+use Rattle.decide.specs.Walks.{noOlder}
+use Rattle.inspect.specs.Tests.{usedFit}
+use Rattle.inspect.proofs.Loops.{used-next}
+use Rattle.inspect.proofs.fits.used_fit.Statement.{statement}
+use Rattle.inspect.proofs.fits.used_fit.Tie as tie
+
+abbrev Inv-loop : tie.InvT-loop
+Inv-loop t n aca o₀ i₀ o i = (i ≤ n) × (usedFit (n - i) aca o (drop (72 + 8 * i) t) ≡ usedFit n aca noOlder (drop 72 t))
+
+abbrev μ-loop : tie.MeasureT-loop
+μ-loop t n aca o₀ i₀ o i = n - i
+
+pub used-fit-spec : {M : Type 1} → statement M
+unfolding usedFit
+used-fit-spec =
+    tie.close
+    (tie.spec
+    Inv-loop
+    μ-loop
+    (λ c κs. search needs)
+    (λ c. let n = c .before .before .args .n in let all : n - 0 ≡ n = omega arith in (omega arith, rw (all, c .no-older .ensures)))
+    (λ c. omega arith)
+    (λ c. omega arith)
+    (λ c κs. omega arith)
+    (λ c κs. search needs)
+    (λ c.
+    let turn = c .before .before .before .before .loop in
+    let args = c .before .before .before .before .before .before .before .args in
+    let fits = c .before .task-fits in
+    (rw (
+      used-next (args .t .now) (args .n) (turn .i) (c .before .before .before .loop-test .taken) (args .aca) (turn .o),
+      ← c .before .before .get8 .ensures,
+      ← fits .ensures,
+      not-true (fits .result) (c .if1 .taken),
+    )
+    at (turn .inv .1)))
+    (λ c κs. search needs)
+    (λ c. omega arith)
+    (λ c κs. search needs)
+    (λ c.
+    let turn = c .before .before .before .before .before .before .before .loop in
+    let args = c .before .before .before .before .before .before .before .before .before .before .args in
+    let good = c .before .before .before .before .task-fits in
+    let fits = c .before .fits2 in
+    (rw (
+      used-next (args .t .now) (args .n) (turn .i) (c .before .before .before .before .before .before .loop-test .taken) (args .aca) (turn .o),
+      ← c .before .before .before .before .before .get8 .ensures,
+      ← good .ensures,
+      not-false (good .result) (c .before .before .before .if1 .left),
+      ← c .before .before .task-from .ensures,
+      ← fits .ensures,
+      not-true (fits .result) (c .if2 .taken),
+    )
+    at (turn .inv .1)))
+    (λ c κs. search needs)
+    (λ c. omega arith)
+    (λ c. omega arith)
+    (λ c.
+    let turn = c .before .before .before .before .before .before .before .before .loop in
+    let args = c .before .before .before .before .before .before .before .before .before .before .before .args in
+    let good = c .before .before .before .before .before .task-fits in
+    let fits = c .before .before .fits2 in (
+      omega arith,
+      rw (c .behind .ensures, c .before .before .before .task-from .ensures)
+          (rw (
+            used-next (args .t .now) (args .n) (turn .i) (c .before .before .before .before .before .before .before .loop-test .taken) (args .aca) (turn .o),
+            ← c .before .before .before .before .before .before .get8 .ensures,
+            ← good .ensures,
+            not-false (good .result) (c .before .before .before .before .if1 .left),
+            ← c .before .before .before .task-from .ensures,
+            ← fits .ensures,
+            not-false (fits .result) (c .before .if2 .left),
+          )
+          at (turn .inv .1)),
+    ))
+    (λ c.
+    let turn = c .before .loop in
+    let none : c .before .before .before .before .args .n - turn .i ≡ 0 = omega arith in
+    (rw none at (turn .inv .1))))

@@ -1,0 +1,52 @@
+-- The tests of a table as code makes them: record by record, with the states in one pass, and names as numbers.
+--
+--   usedFit n aca o l   := the first n task records are good, and their states fit behind o
+--   keyOf t             := nexus and tag as one number
+--   keysFrom n l        := the keys of the first n task records
+--   apart ks            := no two keys are the same
+--   tableTest b         := the test of a table in code's order; that it is `goodTable` is proved (proofs/TableTest)
+--   searchedTurn aca run ts  := whose turn it is, by two searches
+use Prim.Native.Nat.{ℕ, zero, suc, _+_, _-_, _*_}
+use mathlib.Core.Bool.{Bool, true, false, _&&_, not}
+use mathlib.Core.List.{List, [], _∷_, map}
+use lib.Dec.{eqb}
+use lib.ListN.{length, take, drop}
+use Rattle.laws.specs.Lists.{any, first}
+use Rattle.laws.specs.Records.{recordAt}
+use Rattle.rules.specs.Tasks.{places, nexuses, acaTask, enabledHead, enabledPlain}
+use Rattle.records.specs.Records.{headSize, taskSize, headerFrom, headerFits, taskFrom, taskFits}
+use Rattle.records.specs.Tables.{tableSize, nexusesAt, tasksAt, countIn, nexusesFit, unusedFit}
+use Rattle.decide.specs.Walks.{noOlder, behindBy, fitsBy}
+use Rattle.decide.specs.Searches.{foundIn, chosen, turnFound}
+use Rattle.inspect.specs.Types.{Task, Allegiance, Clear, Faulted, Older, Turn}
+
+unfoldable pub usedFit : ℕ → Allegiance → Older → List ℕ → Bool
+usedFit zero aca o l = true
+usedFit (suc n) aca o l =
+    taskFits (take taskSize l)
+    && (fitsBy aca o (taskFrom (take taskSize l)) (eqb n 0)
+    && usedFit n aca (behindBy ((taskFrom (take taskSize l)) .attribute) o) (drop taskSize l))
+
+abbrev pub keyOf : Task → ℕ
+keyOf t = t .nexus * 65536 + t .tag
+
+unfoldable pub keysFrom : ℕ → List ℕ → List ℕ
+keysFrom zero l = []
+keysFrom (suc n) l = keyOf (taskFrom (take taskSize l)) ∷ keysFrom n (drop taskSize l)
+
+unfoldable pub apart : List ℕ → Bool
+apart [] = true
+apart (k ∷ ks) = not (any (eqb k) ks) && apart ks
+
+abbrev pub searchedTurn : Allegiance → ℕ → List Task → Turn
+searchedTurn (Faulted f) run ts = turnFound (foundIn (first acaTask ts))
+searchedTurn Clear run ts = turnFound (chosen (foundIn (first enabledHead ts)) (foundIn (first enabledPlain ts)) run)
+
+-- the test of a table in code's order
+unfoldable pub tableTest : List ℕ → Bool
+tableTest b =
+    eqb (length b) tableSize
+    && (headerFits (recordAt headSize b 0)
+    && (nexusesFit 0 nexuses (drop nexusesAt b)
+    && (usedFit (countIn b) ((headerFrom (recordAt headSize b 0)) .aca) noOlder (drop tasksAt b)
+    && (unusedFit (places - countIn b) (drop (tasksAt + taskSize * countIn b) b) && apart (keysFrom (countIn b) (drop tasksAt b))))))

@@ -1,0 +1,147 @@
+// Whether a table is well formed: header, nexus records, used records with their states in one pass, unused records, pairs.
+use decide::states::behind;
+use decide::states::fits;
+use decide::states::no_older;
+use records::bytes::get8;
+use records::header::header_fits;
+use records::header::header_from;
+use records::nexus::nexus_fits;
+use records::tasks::task_fits;
+use records::tasks::task_from;
+use records::tasks::unused_fits;
+use rules::Allegiance;
+use rules::Tag;
+ghost use mathlib.Core.Path.{_≡_};
+ghost use mathlib.Core.List.{_++_};
+ghost use Prim.Native.Nat.{_+_, _-_, _*_, _≤_};
+ghost use lib.ListN.{length, take, drop};
+ghost use Rattle.decide.specs.Walks.{noOlder};
+ghost use Rattle.records.specs.Tables.{nexusesFit, unusedFit, goodTable};
+ghost use Rattle.inspect.specs.Tests.{usedFit, keysFrom, apart};
+
+// Nexus and tag as one number.
+pub type Key = u32;
+
+fn key_of(n: u8, g: Tag) -> Key
+    ensures { λ r. ⌜ r ≡ n * 65536 + g ⌝ }
+{
+    (n as u32) * 65536 + (g as u32)
+}
+
+fn nexuses_fit(t: &[u8]) -> bool
+    requires { ⌜ length (now t) ≡ 584 ⌝ }
+    ensures { λ r. ⌜ r ≡ nexusesFit 0 8 (drop 8 (now (t .entry))) ⌝ }
+{
+    let mut ok = true;
+    let mut n: usize = 0;
+    while n < 8 {
+        ok = ok & nexus_fits(get8(t, 8 + 8 * n), n as u8);
+        n += 1;
+    }
+    ok
+}
+
+fn used_fit(t: &[u8], n: usize, aca: Allegiance) -> bool
+    requires { ⌜ (length (now t) ≡ 584) × (n ≤ 64) ⌝ }
+    ensures { λ r. ⌜ r ≡ usedFit n aca noOlder (drop 72 (now (t .entry))) ⌝ }
+{
+    let mut o = no_older();
+    let mut i: usize = 0;
+    while i < n {
+        let r = get8(t, 72 + 8 * i);
+        if !task_fits(r) {
+            return false;
+        }
+        let k = task_from(r);
+        let a = k.attribute;
+        if !fits(aca, k, o, i + 1 == n) {
+            return false;
+        }
+        o = behind(a, o);
+        i += 1;
+    }
+    true
+}
+
+fn unused_fit(t: &[u8], n: usize) -> bool
+    requires { ⌜ (length (now t) ≡ 584) × (n ≤ 64) ⌝ }
+    ensures { λ r. ⌜ r ≡ unusedFit (64 - n) (drop (72 + 8 * n) (now (t .entry))) ⌝ }
+{
+    let mut ok = true;
+    let mut i = n;
+    while i < 64 {
+        ok = ok & unused_fits(get8(t, 72 + 8 * i));
+        i += 1;
+    }
+    ok
+}
+
+// That the keys are 64 is asked: of an array behind a reference a proof is told no length.
+fn note_keys(t: &[u8], n: usize, keys: &mut [Key; 64])
+    requires { ⌜ (length (now t) ≡ 584) × (n ≤ 64) × (length (now keys) ≡ 64) ⌝ }
+    ensures { λ _. ⌜ now (keys .exit) ≡ keysFrom n (drop 72 (now (t .entry))) ++ drop n (now (keys .entry)) ⌝ }
+{
+    let mut i: usize = 0;
+    while i < n {
+        let k = task_from(get8(t, 72 + 8 * i));
+        keys[i] = key_of(k.nexus, k.tag);
+        i += 1;
+    }
+}
+
+// "no two tasks share nexus and tag"
+fn distinct(keys: &[Key; 64], n: usize) -> bool
+    requires { ⌜ (n ≤ 64) × (length (now keys) ≡ 64) ⌝ }
+    ensures { λ r. ⌜ r ≡ apart (take n (now (keys .entry))) ⌝ }
+{
+    let mut clear = true;
+    let mut i: usize = 0;
+    'pairs: while i < n {
+        let k = keys[i];
+        let mut j = i + 1;
+        while j < n {
+            if k == keys[j] {
+                clear = false;
+                break 'pairs;
+            }
+            j += 1;
+        }
+        i += 1;
+    }
+    clear
+}
+
+fn names_fit(t: &[u8], n: usize) -> bool
+    requires { ⌜ (length (now t) ≡ 584) × (n ≤ 64) ⌝ }
+    ensures { λ r. ⌜ r ≡ apart (keysFrom n (drop 72 (now (t .entry)))) ⌝ }
+{
+    let mut keys: [Key; 64] = [0; 64];
+    note_keys(t, n, &mut keys);
+    distinct(&keys, n)
+}
+
+// Whatever the bytes and however many.
+pub fn table_fits(t: &[u8]) -> bool
+    ensures { λ r. ⌜ r ≡ goodTable (now (t .entry)) ⌝ }
+{
+    if t.len() != 584 {
+        return false;
+    }
+    let r = get8(t, 0);
+    if !header_fits(r) {
+        return false;
+    }
+    if !nexuses_fit(t) {
+        return false;
+    }
+    let h = header_from(r);
+    let aca = h.aca;
+    let n = r[4] as usize;
+    if !used_fit(t, n, aca) {
+        return false;
+    }
+    if !unused_fit(t, n) {
+        return false;
+    }
+    names_fit(t, n)
+}
