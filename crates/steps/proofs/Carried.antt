@@ -1,0 +1,105 @@
+-- Each step on the bytes, done to the table of a state, gives the table of the state that the rules say.
+use Prim.Native.Nat.{ℕ, zero, suc, _+_, _-_, _*_, _≤_, _<_}
+use mathlib.Core.Bool.{Bool, true, false, cond, _&&_, not}
+use mathlib.Core.Path.{_≡_, refl, ap, sym, _∙_}
+use mathlib.Core.List.{List, [], _∷_, _++_, map, append-assoc, append-nil}
+use native.Mathlib.Omega.{arith}
+use native.Mathlib.Numerals.{add-one}
+use lib.Dec.{eqb}
+use lib.ListN.{length, getD, take, drop, set, length-append, length-map}
+use lib.Seq.{drop-drop, drop-at, take-at, append-snoc}
+use borrow.Author.Tests.{eq-eqb, ne-eqb}
+use Rattle.laws.specs.Lists.{any}
+use Rattle.laws.specs.Records.{recordAt, putAt, joined, eachRecord, keepUnless, keptRecords}
+use Rattle.laws.proofs.Records.{each-written}
+use Rattle.rules.specs.Tasks.{ofNexus, withState, enabledIf, blockedIfEnabled, settleFrom, restate}
+use Rattle.rules.specs.Bits.{noPending, without, afterPowerOn, afterHardReset, afterUnitReset, afterNexusLoss, afterCleared}
+use Rattle.rules.specs.Rulings.{State, kept, lost, fateOf, endedFrom, tellLosersFrom, noted}
+use Rattle.rules.proofs.Fates.{length-split}
+use Rattle.rules.proofs.Distinct.{blockedTask, length-restate}
+use Rattle.records.specs.Numbers.{attributeNumber, attributeFrom, stateNumber, stateFrom, pendingNumber, pendingFrom}
+use Rattle.records.specs.Records.{headerBytes, nexusBytes, taskBytes, taskFrom, unusedBytes}
+use Rattle.records.specs.Tables.{tasksFrom, nexusRecords, unusedRecords, taskRecords, tableBytes}
+use Rattle.records.proofs.Values.{attribute-back, state-back, pending-back}
+use Rattle.records.proofs.Written.{task-back, tasks-back, length-nexuses, length-joined, table-tasks, table-front, table-behind-header}
+use Rattle.decide.specs.Walks.{noOlder, behindBy, eligibleBy, settledBy}
+use Rattle.decide.proofs.Walks.{settled-walk}
+use Rattle.steps.specs.Types.{Task, Header, Pending, Fate, Stays, Ends, Ended, Sweep, Notice, Quiet, Reported, OthersLost, NexusLost, UnitWasReset, HardWasReset, PowerCameOn, Older, Allegiance, Clear, Faulted}
+use Rattle.steps.specs.Steps.{settledRecord, behindRecord, settledBytes, blockedRecord, nextPlace, blockedBytes, endsFate, goneBy, keptCount, closedBytes, notedOne, losers, notedRecord, notedBytes, endsOf}
+
+abbrev pub withTasks : State → List Task → State
+withTasks s ts = record { header = s .header; pending = s .pending; tasks = ts }
+
+abbrev pub withPending : State → List Pending → State
+withPending s ps = record { header = s .header; pending = ps; tasks = s .tasks }
+
+abbrev pub withHeader : State → Header → State
+withHeader s h = record { header = h; pending = s .pending; tasks = s .tasks }
+
+-- The tasks that a table holds -------------------------------------------------------------------------------------------------------------
+
+module _ (s : State) (eight : length (s .pending) ≡ 8) where
+  pub tasks-of-table : tasksFrom (length (s .tasks)) (drop 72 (tableBytes s)) ≡ s .tasks
+  tasks-of-table =
+      ap (tasksFrom (length (s .tasks))) (table-tasks s eight) ∙ tasks-back (s .tasks) (unusedRecords (64 - length (s .tasks)))
+
+  -- a table whose task records are changed
+  pub tasks-changed :
+      (ts : List Task) (l : List ℕ) → l ≡ taskRecords ts → take 72 (tableBytes s) ++ l ≡ tableBytes (withTasks s ts)
+  unfolding tableBytes
+  tasks-changed ts l e =
+      rw e
+      (ap (λ (z : List ℕ). z ++ taskRecords ts) (table-front s eight)
+      ∙ append-assoc (headerBytes (s .header)) (nexusRecords 0 (s .pending)) (taskRecords ts))
+
+-- States -----------------------------------------------------------------------------------------------------------------------------------
+
+same-room : (ts us : List Task) → length us ≡ length ts → joined taskBytes us ++ unusedRecords (64 - length ts) ≡ taskRecords us
+same-room ts us e = rw e
+
+settled-written :
+    (ts : List Task) (rest : List ℕ)
+    → eachRecord 8 settledRecord behindRecord noOlder (length ts) (joined taskBytes ts ++ rest) ≡ joined taskBytes (settleFrom [] ts) ++ rest
+settled-written ts rest =
+    each-written 8 settledRecord behindRecord taskBytes (λ o t. withState t (enabledIf (eligibleBy o (t .attribute))))
+    (λ o t. behindBy (t .attribute) o)
+    settledBy
+    (λ t. refl)
+    (λ o t. rw (attribute-back (t .attribute)))
+    (λ o t. rw (attribute-back (t .attribute)))
+    (λ o. refl)
+    (λ o t ts. refl)
+    noOlder
+    ts
+    rest
+    ∙ ap (λ (us : List Task). joined taskBytes us ++ rest) (settled-walk ts)
+
+blocked-written :
+    (i : ℕ) (ts : List Task) (rest : List ℕ)
+    → eachRecord 8 blockedRecord nextPlace i (length ts) (joined taskBytes ts ++ rest) ≡ joined taskBytes (map blockedTask ts) ++ rest
+blocked-written i ts rest =
+    each-written 8 blockedRecord nextPlace taskBytes (λ i t. blockedTask t) (λ i t. i + 1) (λ i ts. map blockedTask ts) (λ t. refl)
+    (λ i t. rw (state-back (t .state)))
+    (λ i t. refl)
+    (λ i. refl)
+    (λ i t ts. refl)
+    i
+    ts
+    rest
+
+module _ (s : State) (eight : length (s .pending) ≡ 8) where
+  pub settled-table : settledBytes (length (s .tasks)) (tableBytes s) ≡ tableBytes (withTasks s (settleFrom [] (s .tasks)))
+  unfolding settledBytes
+  settled-table =
+      tasks-changed s eight (settleFrom [] (s .tasks)) _
+      (ap (λ (l : List ℕ). eachRecord 8 settledRecord behindRecord noOlder (length (s .tasks)) l) (table-tasks s eight)
+      ∙ settled-written (s .tasks) (unusedRecords (64 - length (s .tasks)))
+      ∙ same-room (s .tasks) (settleFrom [] (s .tasks)) (length-restate Clear Clear (s .tasks)))
+
+  pub blocked-table : blockedBytes (length (s .tasks)) (tableBytes s) ≡ tableBytes (withTasks s (map blockedTask (s .tasks)))
+  unfolding blockedBytes
+  blocked-table =
+      tasks-changed s eight (map blockedTask (s .tasks)) _
+      (ap (λ (l : List ℕ). eachRecord 8 blockedRecord nextPlace 0 (length (s .tasks)) l) (table-tasks s eight)
+      ∙ blocked-written 0 (s .tasks) (unusedRecords (64 - length (s .tasks)))
+      ∙ same-room (s .tasks) (map blockedTask (s .tasks)) (length-map (s .tasks) blockedTask))

@@ -1,0 +1,4 @@
+pub mod Types
+pub mod Steps
+pub mod Closing
+pub mod Reports
