@@ -1,0 +1,109 @@
+-- What code decides from searches over a good table is the ruling on the state that the table says.
+use Prim.Native.Nat.{ℕ, zero, suc, _+_, _*_, _≤_, _<_}
+use mathlib.Core.Bool.{Bool, true, false, cond}
+use mathlib.Core.Path.{_≡_, refl, ap, sym, _∙_}
+use mathlib.Core.List.{List, [], _∷_}
+use mathlib.Core.Option.{Option, none, some}
+use native.Mathlib.Omega.{arith}
+use lib.Dec.{ltb}
+use lib.ListN.{length, getD, take, drop}
+use lib.Seq.{drop-drop, getD-drop, getD-take}
+use borrow.Author.Tests.{lt-ltb}
+use Rattle.laws.specs.Lists.{any, first}
+use Rattle.laws.specs.Records.{recordAt}
+use Rattle.rules.specs.Tasks.{acaTask, same, named, turnOf, isNamed}
+use Rattle.rules.specs.Bits.{noPending}
+use Rattle.rules.specs.Rulings.{State, pendingOf, turn}
+use Rattle.rules.specs.Rules.{enter, complete, manage, happen, nexusOf, ruleFor, ruling}
+use Rattle.rules.specs.Well.{statesFit}
+use Rattle.rules.proofs.Settled.{settled-ordinary}
+use Rattle.rules.proofs.WellKept.{Tested, to-tested}
+use Rattle.records.specs.Numbers.{pendingFrom}
+use Rattle.records.specs.Records.{pendingIn, headerFrom}
+use Rattle.records.specs.Tables.{tasksFrom, pendingsFrom, stateOf, goodTable}
+use Rattle.records.proofs.Good.{table-tested}
+use Rattle.decide.specs.Searches.{foundIn, chosen, turnFound}
+use Rattle.decide.proofs.Walks.{turn-found, chosen-named}
+use Rattle.inspect.specs.Tests.{searchedTurn}
+use Rattle.table.specs.Types.{Task, Event, Command, Completion, Management, Condition, Allegiance, Clear, Faulted, Header, Pending, Turn}
+use Rattle.table.specs.Deciding.{hasAca, pendingAt, searchedRuling}
+
+-- the state that a good table says passes the test of well-formed states
+pub good-tested : (b : List ℕ) → goodTable b ≡ true → Tested (stateOf b)
+good-tested b e = to-tested (stateOf b) (table-tested b e .well)
+
+has-aca-is : (a : Allegiance) (ts : List Task) → statesFit a ts ≡ true → hasAca a ts ≡ any acaTask ts
+has-aca-is Clear ts e = sym (settled-ordinary [] ts e)
+has-aca-is (Faulted f) ts e = refl
+
+pub searched-turn-is : (a : Allegiance) (run : ℕ) (ts : List Task) → statesFit a ts ≡ true → searchedTurn a run ts ≡ turnOf (named a run ts)
+unfolding named
+searched-turn-is Clear run ts e = chosen-named run ts e
+searched-turn-is (Faulted f) run ts e = turn-found (first acaTask ts)
+
+pendings-at : (k n : ℕ) (l : List ℕ) → n < k → getD (pendingsFrom k l) n noPending ≡ pendingFrom (getD l (8 * n + 3) 0)
+unfolding pendingsFrom
+pendings-at zero n l h = absurd (omega arith)
+pendings-at (suc k) zero l h = rw (getD-take 8 l 3 0 (omega arith))
+pendings-at (suc k) (suc n) l h =
+    pendings-at k n (drop 8 l) (omega arith)
+    ∙ rw (getD-drop)
+    (ap (λ (i : ℕ). pendingFrom (getD l i 0)) (let z : 8 + (8 * n + 3) ≡ 8 * suc n + 3 = omega arith in z))
+
+pending-at-is : (b : List ℕ) (n : ℕ) → n < 8 → pendingAt b n ≡ getD (pendingsFrom 8 (drop 8 b)) n noPending
+pending-at-is b n h =
+    sym
+    (pendings-at 8 n (drop 8 b) h
+    ∙ rw (getD-drop) (ap (λ (i : ℕ). pendingFrom (getD b i 0)) (let z : 8 + (8 * n + 3) ≡ 11 + 8 * n = omega arith in z)))
+
+at-nexus : (b : List ℕ) (n : ℕ) → n < 8 → pendingAt b n ≡ pendingOf (stateOf b) n
+unfolding stateOf
+at-nexus b n h = pending-at-is b n h
+
+rule-for :
+    (b : List ℕ) (e : Event) → Tested (stateOf b) → nexusOf e < 8
+    → searchedRuling b ((stateOf b) .header) e ((stateOf b) .tasks) ≡ ruleFor (stateOf b) e
+unfolding searchedRuling ruleFor
+rule-for b (Command c) w l =
+    ap (λ (a : Bool). enter ((stateOf b) .header) c (any (same (c .nexus) (c .tag)) ((stateOf b) .tasks)) a (pendingAt b (c .nexus)))
+    (has-aca-is ((stateOf b) .header .aca) ((stateOf b) .tasks) (w .states))
+    ∙ ap (λ (p : Pending).
+    enter ((stateOf b) .header) c (any (same (c .nexus) (c .tag)) ((stateOf b) .tasks)) (any acaTask ((stateOf b) .tasks)) p)
+    (at-nexus b (c .nexus) l)
+rule-for b (Completion n g f) w l =
+    ap (λ (u : Turn). complete ((stateOf b) .header) (first (same n g) ((stateOf b) .tasks)) f (isNamed n g u))
+    (searched-turn-is ((stateOf b) .header .aca) ((stateOf b) .header .run) ((stateOf b) .tasks) (w .states))
+rule-for b (Management n f) w l = refl
+rule-for b (Condition c) w l = refl
+
+pub searched-ruling-is :
+    (b : List ℕ) (e : Event) → goodTable b ≡ true → nexusOf e < 8
+    → searchedRuling b ((stateOf b) .header) e ((stateOf b) .tasks) ≡ ruling (stateOf b) e
+unfolding ruling
+searched-ruling-is b e g l = rw (lt-ltb (nexusOf e) 8 l) (rule-for b e (good-tested b g) l)
+
+-- What code reads of a good table ------------------------------------------------------------------------------------------------------------
+
+pub good-few : (b : List ℕ) → goodTable b ≡ true → (stateOf b) .header .count ≤ 64
+good-few b e = omega (arith, good-tested b e .counted, good-tested b e .few)
+
+pub header-read : (b r : List ℕ) (h : Header) → r ≡ recordAt 8 b 0 → h ≡ headerFrom r → h ≡ (stateOf b) .header
+unfolding stateOf
+header-read b r h e f = f ∙ ap headerFrom e
+
+tasks-counted : (b : List ℕ) → tasksFrom ((stateOf b) .header .count) (drop 72 b) ≡ (stateOf b) .tasks
+unfolding stateOf
+tasks-counted b = ap (λ (n : ℕ). tasksFrom n (drop 72 b)) (getD-take 8 b 4 0 (omega arith))
+
+module _ (b : List ℕ) (h : Header) (good : goodTable b ≡ true) (read : h ≡ (stateOf b) .header) where
+  pub turn-read : searchedTurn (h .aca) (h .run) (tasksFrom (h .count) (drop 72 b)) ≡ turn (stateOf b)
+  turn-read =
+      ap (λ (k : Header). searchedTurn (k .aca) (k .run) (tasksFrom (k .count) (drop 72 b))) read
+      ∙ ap (searchedTurn ((stateOf b) .header .aca) ((stateOf b) .header .run)) (tasks-counted b)
+      ∙ searched-turn-is ((stateOf b) .header .aca) ((stateOf b) .header .run) ((stateOf b) .tasks) (good-tested b good .states)
+
+  pub ruling-read : (e : Event) → nexusOf e < 8 → searchedRuling b h e (tasksFrom (h .count) (drop 72 b)) ≡ ruling (stateOf b) e
+  ruling-read e l =
+      ap (λ (k : Header). searchedRuling b k e (tasksFrom (k .count) (drop 72 b))) read
+      ∙ ap (searchedRuling b ((stateOf b) .header) e) (tasks-counted b)
+      ∙ searched-ruling-is b e good l

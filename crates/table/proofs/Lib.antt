@@ -1,0 +1,4 @@
+pub mod Decided
+pub mod Carried
+pub mod Fresh
+pub mod Looked

@@ -1,0 +1,46 @@
+-- The looks that come before an event is ruled on.
+use Prim.Native.Nat.{ℕ, _≤_}
+use mathlib.Core.Bool.{true, false, cond}
+use mathlib.Core.Path.{_≡_, refl, ap, _∙_}
+use mathlib.Core.List.{List, []}
+use lib.Dec.{eqb}
+use lib.ListN.{length, replicate}
+use borrow.Author.Tests.{eq-eqb, ne-eqb, le-ltb}
+use Rattle.rules.specs.Rules.{nexusOf, ruling}
+use Rattle.records.specs.Tables.{stateOf, reportBytes, goodTable}
+use Rattle.records.specs.Events.{eventOf}
+use Rattle.table.specs.Types.{Event, Answer, BadTable, BadReport, BadEvent, NexusAboveSeven, EventRead, Readable, Unreadable, Applied}
+use Rattle.table.specs.Answers.{writesReport}
+use Rattle.table.specs.Operations.{Outcome, refused, carried, onEvent, outcome, AppliedAs}
+
+pub refused-as : {o : Outcome} {a : Answer} (x : Applied) (t r : List ℕ) → o ≡ refused a t r → (x .answer ≡ a) × (x .ended ≡ 0) → AppliedAs o x t r
+refused-as x t r e f = rw e (record { answer = f .0; ended = f .1; table = refl; report = refl })
+
+pub zeroed :
+    (a : Answer) (r : List ℕ) → length r ≡ 512 → cond (writesReport a) (replicate (length r) 0) r ≡ cond (writesReport a) (reportBytes []) r
+unfolding reportBytes
+zeroed a r l = ap (λ (n : ℕ). cond (writesReport a) (replicate n 0) r) l
+
+module _ (t r e : List ℕ) where
+  pub no-table : goodTable t ≡ false → outcome t r e ≡ refused BadTable t r
+  unfolding outcome
+  no-table h = rw h
+
+  pub no-report : goodTable t ≡ true → (length r ≡ 512 → ⊥) → outcome t r e ≡ refused BadReport t r
+  unfolding outcome
+  no-report h l = rw (h, ne-eqb (length r) 512 l)
+
+  module _ (h : goodTable t ≡ true) (l : length r ≡ 512) where
+    looked : (o : EventRead) → eventOf e ≡ o → outcome t r e ≡ onEvent t r o
+    unfolding outcome
+    looked o f = rw (h, eq-eqb (length r) 512 l, f)
+
+    pub no-event : eventOf e ≡ Unreadable → outcome t r e ≡ refused BadEvent t r
+    no-event f = looked Unreadable f
+
+    pub ruled-on : (v : Event) → eventOf e ≡ Readable v → outcome t r e ≡ carried t r (stateOf t) (ruling (stateOf t) v)
+    ruled-on v f = looked (Readable v) f
+
+    pub no-nexus : (v : Event) → eventOf e ≡ Readable v → 8 ≤ nexusOf v → outcome t r e ≡ refused NexusAboveSeven t r
+    unfolding ruling
+    no-nexus v f g = ruled-on v f ∙ rw (le-ltb (nexusOf v) 8 g)

@@ -1,0 +1,29 @@
+use borrow.Author.Needs.{needs}
+use lib.ListN.{drop}
+use Rattle.laws.specs.Lists.{first}
+use Rattle.rules.specs.Tasks.{same}
+use Rattle.records.specs.Tables.{tasksFrom}
+use Rattle.decide.proofs.Walks.{task-found}
+use Rattle.table.specs.Deciding.{searchedRuling}
+use Rattle.table.proofs.rule.rule_completion.Statement.{statement}
+use Rattle.table.proofs.rule.rule_completion.Tie as tie
+
+pub rule-completion-spec : {M : Type 1} → statement M
+unfolding searchedRuling
+rule-completion-spec =
+    tie.close
+    (tie.spec
+    (λ c. search needs)
+    (λ c κs. search needs)
+    (λ c κs. search needs)
+    (λ c κs. search needs)
+    (λ c κs. search needs)
+    (λ c.
+    let a = c .before .before .before .before .before .before .args in
+    rw (
+      c .complete .ensures,
+      c .before .is-named .ensures,
+      c .before .before .turn-in .ensures,
+      c .before .before .before .search .ensures,
+      task-found (first (same (a .nexus) (a .g)) (tasksFrom (a .h .count) (drop 72 (a .t .now)))),
+    )))

@@ -1,0 +1,29 @@
+-- The steps of a change that are not loops.
+--
+--   notedUnlessQuiet k ls b  := the nexus records after a notice, if there is one
+--   joinedBytes j k b        := a task that joins is put at place k
+--   restatedBytes a b n l    := the states brought up to date, by the allegiance before and after
+use Prim.Native.Nat.{ℕ, _+_, _*_}
+use mathlib.Core.List.{List}
+use Rattle.laws.specs.Records.{putAt}
+use Rattle.records.specs.Records.{taskBytes}
+use Rattle.steps.specs.Steps.{settledBytes, blockedBytes, notedBytes}
+use Rattle.table.specs.Types.{Task, Allegiance, Clear, Faulted, Bit, Notice, Quiet, Reported, OthersLost, NexusLost, UnitWasReset, HardWasReset, PowerCameOn, Joins, NoTask, NewTask}
+
+abbrev pub notedUnlessQuiet : Notice → List Task → List ℕ → List ℕ
+notedUnlessQuiet Quiet ls b = b
+notedUnlessQuiet (Reported n t) ls b = notedBytes (Reported n t) ls b
+notedUnlessQuiet (OthersLost n) ls b = notedBytes (OthersLost n) ls b
+notedUnlessQuiet (NexusLost n) ls b = notedBytes (NexusLost n) ls b
+notedUnlessQuiet UnitWasReset ls b = notedBytes UnitWasReset ls b
+notedUnlessQuiet HardWasReset ls b = notedBytes HardWasReset ls b
+notedUnlessQuiet PowerCameOn ls b = notedBytes PowerCameOn ls b
+
+abbrev pub joinedBytes : Joins → ℕ → List ℕ → List ℕ
+joinedBytes NoTask k b = b
+joinedBytes (NewTask t) k b = putAt 8 b (72 + 8 * k) (taskBytes t)
+
+abbrev pub restatedBytes : Allegiance → Allegiance → ℕ → List ℕ → List ℕ
+restatedBytes before Clear n b = settledBytes n b
+restatedBytes Clear (Faulted f) n b = blockedBytes n b
+restatedBytes (Faulted g) (Faulted f) n b = b

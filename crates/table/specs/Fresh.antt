@@ -1,0 +1,17 @@
+-- The loops that write a fresh table's records.
+use Prim.Native.Nat.{ℕ, _+_}
+use mathlib.Core.List.{List, _++_}
+use lib.ListN.{take, drop}
+use Rattle.laws.specs.Records.{eachRecord}
+use Rattle.rules.specs.Bits.{noPending, afterPowerOn}
+use Rattle.records.specs.Records.{nexusBytes, unusedBytes}
+use Rattle.steps.specs.Steps.{nextPlace, clearedRecord}
+
+abbrev pub freshNexus : ℕ → List ℕ → List ℕ
+freshNexus i r = nexusBytes i (afterPowerOn noPending)
+
+unfoldable pub freshNexuses : List ℕ → List ℕ
+freshNexuses b = take 8 b ++ eachRecord 8 freshNexus nextPlace 0 8 (drop 8 b)
+
+unfoldable pub freshTasks : List ℕ → List ℕ
+freshTasks b = take 72 b ++ eachRecord 8 clearedRecord nextPlace 0 64 (drop 72 b)

@@ -1,0 +1,90 @@
+-- What the three operations give, for every input (document 01, "Answer numbers").
+--
+--   Outcome                := answer, ended count, and both buffers afterwards
+--   outcome t r e          := apply the event bytes e to the table t with the report buffer r
+--   named t                := name the task whose turn it is
+--   Started, started t p   := start a fresh table in the buffer t under the policy byte p
+--   AppliedAs, StartedAs   := what a result and the buffers at exit have to be
+use Prim.Native.Nat.{ℕ}
+use mathlib.Core.Path.{_≡_}
+use mathlib.Core.Bool.{Bool, true, false, cond}
+use mathlib.Core.List.{List, []}
+use lib.Dec.{eqb}
+use lib.ListN.{length}
+use Rattle.rules.specs.Rulings.{State, turn, fresh, ruled, answerOf, reportOf}
+use Rattle.rules.specs.Rules.{ruling}
+use Rattle.records.specs.Numbers.{policyFits, policyFrom}
+use Rattle.records.specs.Tables.{tableSize, reportSize, stateOf, tableBytes, reportBytes, goodTable}
+use Rattle.records.specs.Events.{eventOf}
+use Rattle.table.specs.Types.{Event, Answer, Done, BadTable, BadReport, BadEvent, BadPolicy, Turn, Nothing, Ruling, Keeps, Changes, EventRead, Readable, Unreadable, Applied, Naming}
+use Rattle.table.specs.Answers.{writesReport}
+
+-- Apply ------------------------------------------------------------------------------------------------------------------------------------
+
+pub record Outcome : Type 0 where
+  pub answer : Answer
+  pub ended : ℕ
+  pub table : List ℕ
+  pub report : List ℕ
+
+abbrev pub refused : Answer → List ℕ → List ℕ → Outcome
+refused a t r = record { answer = a; ended = 0; table = t; report = r }
+
+-- "Table: as ruled; same"
+abbrev pub tableAfter : List ℕ → State → Ruling → List ℕ
+tableAfter t s (Keeps a) = t
+tableAfter t s (Changes a c) = tableBytes (ruled s (Changes a c))
+
+-- "Report: written whole; same; zeros"
+abbrev pub reportAfter : List ℕ → State → Ruling → List ℕ
+reportAfter r s (Keeps a) = cond (writesReport a) (reportBytes []) r
+reportAfter r s (Changes a c) = reportBytes (reportOf s (Changes a c))
+
+-- "The ended count is the number of ended records in the report"
+abbrev pub carried : List ℕ → List ℕ → State → Ruling → Outcome
+carried t r s l =
+    record { answer = answerOf l; ended = length (reportOf s l); table = tableAfter t s l; report = reportAfter r s l }
+
+abbrev pub onEvent : List ℕ → List ℕ → EventRead → Outcome
+onEvent t r Unreadable = refused BadEvent t r
+onEvent t r (Readable e) = carried t r (stateOf t) (ruling (stateOf t) e)
+
+-- "The lowest of 1 to 4 that applies is given, and each is given only then."
+unfoldable pub outcome : List ℕ → List ℕ → List ℕ → Outcome
+outcome t r e =
+    cond (goodTable t) (cond (eqb (length r) reportSize) (onEvent t r (eventOf e)) (refused BadReport t r)) (refused BadTable t r)
+
+pub record AppliedAs (o : Outcome) (a : Applied) (t r : List ℕ) : Type 0 where
+  pub answer : a .answer ≡ o .answer
+  pub ended : a .ended ≡ o .ended
+  pub table : t ≡ o .table
+  pub report : r ≡ o .report
+
+-- Name -------------------------------------------------------------------------------------------------------------------------------------
+
+abbrev pub naming : Answer → Turn → Naming
+naming a u = record { answer = a; turn = u }
+
+-- "naming looks at the table (1)"
+unfoldable pub named : List ℕ → Naming
+named t = cond (goodTable t) (naming Done (turn (stateOf t))) (naming BadTable Nothing)
+
+-- Start ------------------------------------------------------------------------------------------------------------------------------------
+
+pub record Started : Type 0 where
+  pub answer : Answer
+  pub table : List ℕ
+
+abbrev pub start : Answer → List ℕ → Started
+start a t = record { answer = a; table = t }
+
+-- "Starting a table looks at length (1), then policy (9)"
+unfoldable pub started : List ℕ → ℕ → Started
+started t p =
+    cond (eqb (length t) tableSize)
+    (cond (policyFits p) (start Done (tableBytes (fresh (policyFrom p)))) (start BadPolicy t))
+    (start BadTable t)
+
+pub record StartedAs (o : Started) (a : Answer) (t : List ℕ) : Type 0 where
+  pub answer : a ≡ o .answer
+  pub table : t ≡ o .table

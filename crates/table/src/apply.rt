@@ -1,0 +1,115 @@
+// Apply one event.
+use crate::carry::change;
+use crate::rule::nexus_of;
+use crate::rule::rule;
+use inspect::fits::table_fits;
+use records::bytes::get8;
+use records::events::EventRead;
+use records::events::event_of;
+use records::header::header_from;
+use rules::Answer;
+use rules::Event;
+use rules::Header;
+use rules::Ruling;
+use steps::report::zero_rest;
+ghost use mathlib.Core.Path.{_≡_};
+ghost use mathlib.Core.Bool.{true, cond};
+ghost use Prim.Native.Nat.{_<_};
+ghost use lib.ListN.{length, replicate};
+ghost use Rattle.rules.specs.Rulings.{ruled};
+ghost use Rattle.rules.specs.Rules.{nexusOf, ruling};
+ghost use Rattle.rules.specs.Well.{wellFormed};
+ghost use Rattle.records.specs.Tables.{stateOf, goodTable};
+ghost use Rattle.table.specs.Answers.{writesReport};
+ghost use Rattle.table.specs.Operations.{carried, outcome, AppliedAs};
+
+// The answer and the ended count; document 01's numbers for each answer are in specs/Answers.
+pub struct Applied {
+    pub answer: Answer,
+    pub ended: u8,
+}
+
+fn writes_report(a: Answer) -> bool
+    ensures { λ r. ⌜ r ≡ writesReport a ⌝ }
+{
+    match a {
+        Answer::Done => true,
+        Answer::BadTable => false,
+        Answer::BadReport => false,
+        Answer::BadEvent => false,
+        Answer::NexusAboveSeven => false,
+        Answer::NoSuchTask => false,
+        Answer::NotEnabled => false,
+        Answer::EndedAtEntry(_, _) => true,
+        Answer::Rejected => true,
+        Answer::BadPolicy => false,
+    }
+}
+
+fn zero_if(report: &mut [u8], write: bool)
+    ensures { λ _. ⌜ now (report .exit) ≡ cond write (replicate (length (now (report .entry))) 0) (now (report .entry)) ⌝ }
+{
+    if write {
+        zero_rest(report);
+    }
+}
+
+fn carry_out(t: &mut [u8], report: &mut [u8], h: Header, r: Ruling) -> Applied
+    requires { ⌜ (goodTable (now t) ≡ true) × (length (now report) ≡ 512) × (h ≡ (stateOf (now t)) .header) × (wellFormed (ruled (stateOf (now t)) r) ≡ true) ⌝ }
+    ensures { λ a. ⌜ AppliedAs (carried (now (t .entry)) (now (report .entry)) (stateOf (now (t .entry))) r) a (now (t .exit)) (now (report .exit)) ⌝ }
+{
+    let aca = h.aca;
+    match r {
+        Ruling::Keeps(a) => {
+            zero_if(report, writes_report(a));
+            Applied {
+                answer: a,
+                ended: 0,
+            }
+        }
+        Ruling::Changes(a, c) => {
+            let ended = change(t, report, h.count as usize, aca, c);
+            Applied {
+                answer: a,
+                ended: ended as u8,
+            }
+        }
+    }
+}
+
+fn on_event(t: &mut [u8], report: &mut [u8], e: Event) -> Applied
+    requires { ⌜ (goodTable (now t) ≡ true) × (length (now report) ≡ 512) × (nexusOf e < 8) ⌝ }
+    ensures { λ a. ⌜ AppliedAs (carried (now (t .entry)) (now (report .entry)) (stateOf (now (t .entry))) (ruling (stateOf (now (t .entry))) e)) a (now (t .exit)) (now (report .exit)) ⌝ }
+{
+    let h = header_from(get8(t, 0));
+    let r = rule(t, h, e);
+    carry_out(t, report, h, r)
+}
+
+fn refuse(a: Answer) -> Applied
+    ensures { λ r. ⌜ (r .answer ≡ a) × (r .ended ≡ 0) ⌝ }
+{
+    Applied {
+        answer: a,
+        ended: 0,
+    }
+}
+
+// Whatever the bytes and however many.
+pub fn apply(t: &mut [u8], report: &mut [u8], event: &[u8]) -> Applied
+    ensures { λ a. ⌜ AppliedAs (outcome (now (t .entry)) (now (report .entry)) (now (event .entry))) a (now (t .exit)) (now (report .exit)) ⌝ }
+{
+    if !table_fits(t) {
+        return refuse(Answer::BadTable);
+    }
+    if report.len() != 512 {
+        return refuse(Answer::BadReport);
+    }
+    let EventRead::Readable(e) = event_of(event) else {
+        return refuse(Answer::BadEvent);
+    };
+    if 8 <= nexus_of(e) {
+        return refuse(Answer::NexusAboveSeven);
+    }
+    on_event(t, report, e)
+}

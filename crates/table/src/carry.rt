@@ -1,0 +1,86 @@
+// A ruling carried out on the lent bytes.
+use records::bytes::put8;
+use records::header::header_bytes;
+use records::tasks::task_bytes;
+use rules::Allegiance;
+use rules::Change;
+use rules::Joins;
+use rules::Notice;
+use rules::Sweep;
+use steps::close::close_up;
+use steps::note::note;
+use steps::report::write_report;
+use steps::restate::block;
+use steps::restate::settle;
+ghost use mathlib.Core.Path.{_≡_};
+ghost use mathlib.Core.Bool.{true};
+ghost use mathlib.Core.List.{[]};
+ghost use Prim.Native.Nat.{_+_, _≤_};
+ghost use lib.ListN.{length, drop};
+ghost use Rattle.rules.specs.Rulings.{newcomers, ruled, reportOf};
+ghost use Rattle.rules.specs.Well.{wellFormed};
+ghost use Rattle.records.specs.Tables.{stateOf, tableBytes, reportBytes, goodTable};
+ghost use Rattle.steps.specs.Steps.{losers};
+ghost use Rattle.table.specs.Carrying.{notedUnlessQuiet, joinedBytes, restatedBytes};
+ghost use Rattle.table.specs.Changes.{ChangeFits, ChangedAs};
+
+fn note_if(t: &mut [u8], n: usize, w: Sweep, k: Notice)
+    requires { ⌜ (length (now t) ≡ 584) × (n ≤ 64) ⌝ }
+    ensures { λ _. ⌜ now (t .exit) ≡ notedUnlessQuiet k (losers w n (drop 72 (now (t .entry)))) (now (t .entry)) ⌝ }
+{
+    match k {
+        Notice::Quiet => {}
+        Notice::Reported(_, _) => note(t, n, w, k),
+        Notice::OthersLost(_) => note(t, n, w, k),
+        Notice::NexusLost(_) => note(t, n, w, k),
+        Notice::UnitWasReset => note(t, n, w, k),
+        Notice::HardWasReset => note(t, n, w, k),
+        Notice::PowerCameOn => note(t, n, w, k),
+    }
+}
+
+// How many tasks there are then.
+fn join(t: &mut [u8], k: usize, j: Joins) -> usize
+    requires { ⌜ (length (now t) ≡ 584) × (k + length (newcomers j) ≤ 64) ⌝ }
+    ensures { λ m. ⌜ (m ≡ k + length (newcomers j)) × (now (t .exit) ≡ joinedBytes j k (now (t .entry))) ⌝ }
+{
+    match j {
+        Joins::NoTask => k,
+        Joins::NewTask(x) => {
+            put8(t, 72 + 8 * k, task_bytes(x));
+            k + 1
+        }
+    }
+}
+
+fn restate(t: &mut [u8], n: usize, before: Allegiance, after: Allegiance)
+    requires { ⌜ (length (now t) ≡ 584) × (n ≤ 64) ⌝ }
+    ensures { λ _. ⌜ now (t .exit) ≡ restatedBytes before after n (now (t .entry)) ⌝ }
+{
+    match after {
+        Allegiance::Clear => settle(t, n),
+        Allegiance::Faulted(_) => match before {
+            Allegiance::Clear => block(t, n),
+            Allegiance::Faulted(_) => {}
+        },
+    }
+}
+
+// How many tasks ended.
+pub fn change(t: &mut [u8], report: &mut [u8], n: usize, before: Allegiance, c: Change) -> usize
+    requires { ⌜ ChangeFits (now t) (now report) n before c ⌝ }
+    ensures { λ m. ⌜ ChangedAs (now (t .entry)) c (now (t .exit)) (now (report .exit)) m ⌝ }
+{
+    let w = c.sweep;
+    let k = c.notice;
+    let j = c.joins;
+    let h = c.header;
+    let after = h.aca;
+    let ended = write_report(t, n, w, report);
+    note_if(t, n, w, k);
+    let stay = close_up(t, n, w);
+    let m = join(t, stay, j);
+    restate(t, m, before, after);
+    put8(t, 0, header_bytes(h.with_count(m as u8)));
+    ended
+}

@@ -1,0 +1,70 @@
+// Start a fresh table.
+use decide::pending::after_power_on;
+use records::bytes::put8;
+use records::header::header_bytes;
+use records::header::policy_fits;
+use records::header::policy_from;
+use records::nexus::nexus_bytes;
+use records::tasks::unused_bytes;
+use rules::Allegiance;
+use rules::Answer;
+use rules::Header;
+ghost use mathlib.Core.Path.{_≡_};
+ghost use mathlib.Core.List.{_++_};
+ghost use lib.ListN.{length, take, drop};
+ghost use Rattle.rules.specs.Rulings.{fresh};
+ghost use Rattle.records.specs.Numbers.{policyFrom};
+ghost use Rattle.records.specs.Tables.{tableBytes};
+ghost use Rattle.table.specs.Operations.{started, StartedAs};
+ghost use Rattle.table.specs.Fresh.{freshNexuses, freshTasks};
+
+fn write_nexuses(t: &mut [u8])
+    requires { ⌜ length (now t) ≡ 584 ⌝ }
+    ensures { λ _. ⌜ now (t .exit) ≡ freshNexuses (now (t .entry)) ⌝ }
+{
+    let mut i: usize = 0;
+    while i < 8 {
+        put8(t, 8 + 8 * i, nexus_bytes(i as u8, after_power_on()));
+        i += 1;
+    }
+}
+
+fn write_tasks(t: &mut [u8])
+    requires { ⌜ length (now t) ≡ 584 ⌝ }
+    ensures { λ _. ⌜ now (t .exit) ≡ freshTasks (now (t .entry)) ⌝ }
+{
+    let mut i: usize = 0;
+    while i < 64 {
+        put8(t, 72 + 8 * i, unused_bytes());
+        i += 1;
+    }
+}
+
+fn write_fresh(t: &mut [u8], policy: u8)
+    requires { ⌜ length (now t) ≡ 584 ⌝ }
+    ensures { λ _. ⌜ now (t .exit) ≡ tableBytes (fresh (policyFrom policy)) ⌝ }
+{
+    let h = Header {
+        policy: policy_from(policy),
+        count: 0,
+        aca: Allegiance::Clear,
+        run: 0,
+    };
+    put8(t, 0, header_bytes(h));
+    write_nexuses(t);
+    write_tasks(t);
+}
+
+// Whatever the bytes and however many.
+pub fn start(t: &mut [u8], policy: u8) -> Answer
+    ensures { λ a. ⌜ StartedAs (started (now (t .entry)) policy) a (now (t .exit)) ⌝ }
+{
+    if t.len() != 584 {
+        return Answer::BadTable;
+    }
+    if !policy_fits(policy) {
+        return Answer::BadPolicy;
+    }
+    write_fresh(t, policy);
+    Answer::Done
+}
