@@ -1,0 +1,13 @@
+use borrow.Author.Needs.{needs}
+use Rattle.dedakhumi.proofs.numbers.turn_in_numbers.Statement.{statement}
+use Rattle.dedakhumi.proofs.numbers.turn_in_numbers.Tie as tie
+
+pub turn-in-numbers-spec : {M : Type 1} → statement M
+turn-in-numbers-spec =
+    tie.close
+    (tie.spec
+    (λ c κs. search needs)
+    (λ c. search needs)
+    (λ c. search needs)
+    (λ c. simp (c .enum-told .given .1, c .before .match .keys1, c .before .before .in-numbers .ensures))
+    (λ c. simp (c .known-told .given .1, c .before .u .given .1, c .before .before .match .keys2, c .before .before .before .in-numbers .ensures)))

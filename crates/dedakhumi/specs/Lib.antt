@@ -1,0 +1,4 @@
+pub mod Types
+pub mod Boundary
+pub mod Moves
+pub mod Demands
