@@ -1,0 +1,39 @@
+-- What the player writes for event bytes, piece by piece.
+--
+--   pieces n              := how many pieces n bytes make: eights, and a shorter last one
+--   Run                   := the lines written, and the table and the report buffer afterwards
+--   behind ls p           := the run p with the lines ls before its own
+--   played n t r es       := the run over the first n pieces of es, from the table t and the report buffer r
+--   PlayedAs p ..         := what the buffers at exit have to be, with lines up to `end` of `out`
+use Prim.Native.Nat.{ℕ, zero, suc, _+_, _/_}
+use mathlib.Core.Path.{_≡_}
+use mathlib.Core.List.{List, [], _++_}
+use lib.ListN.{take, drop}
+use Rattle.io.specs.Counts.{Counts}
+use Rattle.table.specs.Operations.{outcome}
+use Rattle.dedakhumi.specs.Boundary.{answered}
+use Rattle.player.specs.Lines.{line}
+
+abbrev pub pieces : ℕ → ℕ
+pieces n = (n + 7) / 8
+
+pub record Run : Type 0 where
+  pub lines : List ℕ
+  pub table : List ℕ
+  pub report : List ℕ
+
+abbrev pub behind : List ℕ → Run → Run
+behind ls p = record { lines = ls ++ p .lines; table = p .table; report = p .report }
+
+-- "A last piece under 8 bytes is a bad event": take 8 leaves it as short as it is
+unfoldable pub played : ℕ → List ℕ → List ℕ → List ℕ → Run
+played zero t r es = record { lines = []; table = t; report = r }
+played (suc n) t r es =
+    behind (line (answered (outcome t r (take 8 es))))
+    (played n ((outcome t r (take 8 es)) .table) ((outcome t r (take 8 es)) .report) (drop 8 es))
+
+pub record PlayedAs (p : Run) (t r out : List ℕ) (end : ℕ) : Type 0 where
+  pub lines : take end out ≡ p .lines
+  pub table : t ≡ p .table
+  pub report : r ≡ p .report
+  pub within : Counts end out

@@ -1,0 +1,40 @@
+// Plays event records from standard input and writes a line for each.
+mod lines;
+mod play;
+
+use crate::play::play;
+use libc::STDIN_FILENO;
+use libc::STDOUT_FILENO;
+ghost use Prim.Native.Nat.{_*_, _≤_};
+ghost use lib.ListN.{length};
+ghost use Rattle.player.specs.Played.{pieces};
+
+// Plays what one buffer takes in, and says whether to go on. Only at the end of the input is it not filled, so with a buffer of whole records
+// none is cut before that.
+fn play_some(table: &mut [u8], report: &mut [u8], events: &mut [u8], out: &mut [u8]) -> bool
+    requires { ⌜ 20 * pieces (length (now events)) ≤ length (now out) ⌝ }
+{
+    let n = io::read_full(STDIN_FILENO, events);
+    let end = play(table, report, &events[..n], out);
+    let is_written = io::write_all(STDOUT_FILENO, &out[..end]);
+    is_written & (n == events.len())
+}
+
+// Nothing says that the input ends, so the loop counts its turns down.
+fn play_all(table: &mut [u8], report: &mut [u8], events: &mut [u8], out: &mut [u8])
+    requires { ⌜ 20 * pieces (length (now events)) ≤ length (now out) ⌝ }
+{
+    let mut turns = u64::MAX;
+    while turns > 0 && play_some(table, report, events, out) {
+        turns -= 1;
+    }
+}
+
+fn main() {
+    let mut table = [0u8; 584];
+    let mut report = [0u8; 512];
+    let mut events = [0u8; 32768];
+    let mut out = [0u8; 81920];
+    dedakhumi::dedakhumi_start(&mut table, 0);
+    play_all(&mut table, &mut report, &mut events, &mut out);
+}

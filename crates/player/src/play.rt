@@ -1,0 +1,39 @@
+// Event bytes played piece by piece, their lines put into a buffer.
+use crate::lines::put_line;
+use dedakhumi::dedakhumi_apply;
+ghost use Prim.Native.Nat.{_+_, _*_, _≤_, min};
+ghost use mathlib.Core.Path.{_≡_};
+ghost use lib.ListN.{length};
+ghost use Rattle.table.specs.Operations.{outcome};
+ghost use Rattle.dedakhumi.specs.Boundary.{answered};
+ghost use Rattle.player.specs.Lines.{line, Written};
+ghost use Rattle.player.specs.Played.{pieces, played, PlayedAs};
+
+fn play_one(table: &mut [u8], report: &mut [u8], event: &[u8], out: &mut [u8], at: usize) -> usize
+    requires { ⌜ at + 20 ≤ length (now out) ⌝ }
+    ensures { λ r. ⌜ Written (now (out .entry)) at (now (out .exit)) r (line (answered (outcome (now (table .entry)) (now (report .entry)) (now (event .entry))))) × (r ≤ at + 20) × (now (table .exit) ≡ (outcome (now (table .entry)) (now (report .entry)) (now (event .entry))) .table) × (now (report .exit) ≡ (outcome (now (table .entry)) (now (report .entry)) (now (event .entry))) .report) ⌝ }
+{
+    let a = dedakhumi_apply(table, report, event);
+    put_line(out, at, a)
+}
+
+fn least(a: usize, b: usize) -> usize
+    ensures { λ r. ⌜ r ≡ min a b ⌝ }
+{
+    if a < b { a } else { b }
+}
+
+// Only the last piece can be shorter than a record; that is apply's to refuse.
+pub fn play(table: &mut [u8], report: &mut [u8], events: &[u8], out: &mut [u8]) -> usize
+    requires { ⌜ 20 * pieces (length (now events)) ≤ length (now out) ⌝ }
+    ensures { λ r. ⌜ PlayedAs (played (pieces (length (now (events .entry)))) (now (table .entry)) (now (report .entry)) (now (events .entry))) (now (table .exit)) (now (report .exit)) (now (out .exit)) r ⌝ }
+{
+    let n = (events.len() + 7) / 8;
+    let mut at = 0;
+    for i in 0..n {
+        let from = 8 * i;
+        let to = least(from + 8, events.len());
+        at = play_one(table, report, &events[from..to], out, at);
+    }
+    at
+}
