@@ -1,3 +1,12 @@
 pub mod Play
 pub mod Paper
+pub mod Begin
+pub mod Errors
+pub mod Turns
+pub mod Answers
+pub mod Entries
+pub mod Allegiances
+pub mod Aborts
+pub mod Resets
+pub mod Full
 pub mod More
