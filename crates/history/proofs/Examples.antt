@@ -9,15 +9,12 @@ use Rattle.rules.specs.Tasks.{named}
 use Rattle.rules.specs.Rulings.{State, fresh}
 use Rattle.rules.specs.Rules.{newTask, enter, complete, manage, happen, ruleFor, ruling, answer}
 use Rattle.rules.specs.Well.{WellFormed}
+use Rattle.rules.proofs.Accidents.{command}
 use Rattle.history.specs.History.{Past, begin, advance, play, after, hasEnded, inTable, turns}
 use Rattle.history.proofs.Reached.{reached-well-formed}
 
 abbrev policy : Policy
 policy = record { qerr = EndNone; tas = false }
-
--- exempt, so that no pending bit stands in the way
-abbrev command : ℕ → ℕ → Attribute → Bool → Event
-command n g a naca = Command (record { nexus = n; asked = Known a; naca = naca; exempt = true; tag = g })
 
 -- The bound is met -------------------------------------------------------------------------------------------------------------------------
 

@@ -17,7 +17,8 @@ use Rattle.rules.proofs.Fates.{any-kept, map-kept}
 use Rattle.rules.proofs.Settled.{is-aca}
 use Rattle.history.specs.History.{Past, advance, play, after, hasEnded}
 use Rattle.history.proofs.Reached.{reached-well-formed}
-use Rattle.history.proofs.Places.{Place, place-split, Outlives, stayers, attributes, place-by}
+use Rattle.rules.proofs.WellSays.{attributes}
+use Rattle.history.proofs.Places.{Place, place-split, Outlives, stayers, place-by}
 use Rattle.history.proofs.Wait.{still-ended}
 
 -- the command with serial number k is in the table, and eligible

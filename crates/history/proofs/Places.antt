@@ -14,6 +14,7 @@ use Rattle.history.specs.Types.{Attribute, Task, Event, Allegiance, Clea
 use Rattle.rules.specs.Tasks.{isHead, settleFrom, restate}
 use Rattle.rules.specs.Rulings.{kept, lost, fateOf, newcomers, joinsOf}
 use Rattle.rules.specs.Rules.{ruling}
+use Rattle.rules.proofs.WellSays.{attributes}
 use Rattle.rules.proofs.Fates.{isEnds, stays-is, length-kept, count-kept-le}
 use Rattle.rules.proofs.Distinct.{blockedTask}
 use Rattle.rules.proofs.Settled.{headTask}
@@ -58,9 +59,6 @@ place-kept {k = k} {t = t} fate e (there {j = j} {u = u} {ks = ks} {ts = ts} {ol
         → Place k t (kept (f ∷ map fate ts) (j ∷ ks)) (kept (f ∷ map fate ts) (u ∷ ts)) (kept (f ∷ map fate older) (u ∷ older))
     go Stays q = there q
     go (Ends st) q = q
-
-abbrev pub attributes : List Task → List Attribute
-attributes ts = map (λ (u : Task). u .attribute) ts
 
 -- the task's place in a table with other states: behind tasks of the same attributes
 pub record Moved (k : ℕ) (t : Task) (ks : List ℕ) (ts older : List Task) : Type 0 where

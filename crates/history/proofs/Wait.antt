@@ -24,7 +24,8 @@ use Rattle.history.specs.History.{Past, advanceBy, advance, play, after,
 use Rattle.history.proofs.Reached.{tested-advance, tested-after}
 use Rattle.history.proofs.Conserve.{conserved, conserved-advance, conserved-play, ended-grows}
 use Rattle.history.proofs.Effects.{Quiet, TurnOf, EffectR, effect}
-use Rattle.history.proofs.Places.{Place, place-split, Outlives, stayers, endsBy, attributes, place-by, count-attributes, entered}
+use Rattle.rules.proofs.WellSays.{attributes}
+use Rattle.history.proofs.Places.{Place, place-split, Outlives, stayers, endsBy, place-by, count-attributes, entered}
 
 -- The potential ----------------------------------------------------------------------------------------------------------------------------
 

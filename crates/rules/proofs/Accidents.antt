@@ -10,7 +10,7 @@ use Rattle.rules.specs.Rulings.{State, fresh}
 use Rattle.rules.specs.Rules.{ended, newTask, enter, complete, manage, ruleFor, ruling, step, answer, report}
 
 -- exempt, so that no pending bit stands in the way
-abbrev command : ℕ → ℕ → Attribute → Bool → Event
+abbrev pub command : ℕ → ℕ → Attribute → Bool → Event
 command n g a naca = Command (record { nexus = n; asked = Known a; naca = naca; exempt = true; tag = g })
 
 abbrev from : State → List Event → State

@@ -46,7 +46,7 @@ or-swap true false c = refl
 or-swap false true c = refl
 or-swap false false c = refl
 
-abbrev attributes : List Task → List Attribute
+abbrev pub attributes : List Task → List Attribute
 attributes ts = map (λ (u : Task). u .attribute) ts
 
 any-behind : (q : Attribute → Bool) (ts : List Task) (acc : List Attribute) → any q (behind ts acc) ≡ any q acc || any q (attributes ts)
