@@ -189,6 +189,10 @@ table-tested b e =
       well = o5 .1;
     }
 
+-- the state that a good table says passes the test of well-formed states
+pub good-tested : (b : List ℕ) → goodTable b ≡ true → Tested (stateOf b)
+good-tested b e = to-tested (stateOf b) (table-tested b e .well)
+
 pub tested-table : (b : List ℕ) → TableTested b → goodTable b ≡ true
 unfolding goodTable
 tested-table b w =

@@ -1,15 +1,15 @@
 -- What the ruling on an event can come to, as laws for whoever argues by cases.
-use Prim.Native.Nat.{ℕ, _<_}
+use Prim.Native.Nat.{ℕ, _<_, _≤_}
 use mathlib.Core.Bool.{Bool, true, false, cond, _&&_, not}
 use mathlib.Core.Path.{_≡_, refl, sym}
 use mathlib.Core.List.{List, [], _∷_}
 use mathlib.Core.Option.{Option, none, some}
 use lib.Dec.{eqb, ltb, leb}
-use borrow.Author.Tests.{ltb-true, not-true, not-false}
+use borrow.Author.Tests.{ltb-true, lt-ltb, le-ltb, not-true, not-false}
 use Rattle.laws.specs.Lists.{any, first}
 use Rattle.laws.proofs.Bools.{and-true, cases, none-some, some-is}
 use Rattle.rules.specs.Types.{Task, Entry, Finish, Function, Happening, Event, Command, Completion, Management, Condition, Allegiance, Clear, Faulted, Header, Pending, Bit, Top, NoBit, Highest, Nobody, NexusTasks, Reported, NoTask, Change, Sense, EndedAtEntry, Done, NexusAboveSeven, NoSuchTask, NotEnabled, Ruling, Keeps, Changes}
-use Rattle.rules.specs.Tasks.{isEnabled, acaTask, same, isNamed}
+use Rattle.rules.specs.Tasks.{nexuses, isEnabled, acaTask, same, isNamed}
 use Rattle.rules.specs.Bits.{top, senseFor}
 use Rattle.rules.specs.Rulings.{State, pendingOf, turn}
 use Rattle.rules.specs.Rules.{sweeping, checked, onlyIf, check1, asksAca, check2, check3, badAttribute, check4, check5, accepting, decide, enter, finish, complete, manage, happen, nexusOf, ruleFor, ruling}
@@ -118,3 +118,34 @@ other-cases P s high completes enters manages happens (Management n f) =
     cases (P (Management n f)) (ltb n 8) (λ l. manages n f) (λ l. high (Management n f))
 other-cases P s high completes enters manages happens (Condition c) =
     cases (P (Condition c)) (ltb (nexusOf (Condition c)) 8) (λ l. happens c) (λ l. high (Condition c))
+
+-- The ruling by its event ------------------------------------------------------------------------------------------------------------------
+
+module _ (s : State) where
+  pub ruling-low : (e : Event) → nexusOf e < nexuses → ruling s e ≡ ruleFor s e
+  unfolding ruling
+  ruling-low e h = rw (lt-ltb (nexusOf e) nexuses h)
+
+  pub ruling-high : (e : Event) → nexuses ≤ nexusOf e → ruling s e ≡ Keeps NexusAboveSeven
+  unfolding ruling
+  ruling-high e h = rw (le-ltb (nexusOf e) nexuses h)
+
+  pub rule-command :
+      (c : Entry)
+      → ruleFor s (Command c)
+      ≡ enter (s .header) c (any (same (c .nexus) (c .tag)) (s .tasks)) (any acaTask (s .tasks)) (pendingOf s (c .nexus))
+  unfolding ruleFor
+  rule-command c = refl
+
+  pub rule-completion :
+      (n g : ℕ) (f : Finish) → ruleFor s (Completion n g f) ≡ complete (s .header) (first (same n g) (s .tasks)) f (isNamed n g (turn s))
+  unfolding ruleFor
+  rule-completion n g f = refl
+
+  pub rule-management : (n : ℕ) (f : Function) → ruleFor s (Management n f) ≡ manage (s .header) n f
+  unfolding ruleFor
+  rule-management n f = refl
+
+  pub rule-condition : (c : Happening) → ruleFor s (Condition c) ≡ happen (s .header) c
+  unfolding ruleFor
+  rule-condition c = refl

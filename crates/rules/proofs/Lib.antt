@@ -4,6 +4,7 @@ pub mod Distinct
 pub mod Settled
 pub mod Held
 pub mod Cases
+pub mod Policies
 pub mod WellKept
 pub mod WellSays
 pub mod Turns

@@ -1,4 +1,4 @@
--- Laws of the turn rule in a table without ACA.
+-- Laws of the turn rule, most of them in a table without ACA.
 use Prim.Native.Nat.{ℕ, _+_, _<_}
 use mathlib.Core.Bool.{Bool, true, false, cond, _||_, _&&_, not}
 use mathlib.Core.Path.{_≡_, refl, ap}
@@ -10,11 +10,16 @@ use borrow.Author.Tests.{ltb-true, not-true}
 use Rattle.laws.specs.Lists.{one-if, any, count, first}
 use Rattle.laws.proofs.Bools.{and-true, and-false, or-false, or-true, or-on, not-both, none-some, cases, split}
 use Rattle.laws.proofs.Lists.{first-cases, first-passes, first-append}
-use Rattle.rules.specs.Types.{Attribute, Simple, HeadOfQueue, Ordered, Aca, Task, Clear}
-use Rattle.rules.specs.Tasks.{isHead, isPlain, isAca, isEnabled, enabledTask, enabledHead, enabledPlain, same, named}
+use Rattle.rules.specs.Types.{Attribute, Simple, HeadOfQueue, Ordered, Aca, Task, Clear, Faulted}
+use Rattle.rules.specs.Tasks.{isHead, isPlain, isAca, isEnabled, acaTask, enabledTask, enabledHead, enabledPlain, same, named}
 use Rattle.rules.specs.Well.{settled, distinct}
 use Rattle.rules.proofs.Distinct.{distinct-first}
 use Rattle.rules.proofs.Settled.{headTask, settled-cons, enabled-head, held-back, oldest-enabled}
+
+-- "With ACA: the ACA task, else nothing"
+pub named-in-aca : (f run : ℕ) (ts : List Task) → named (Faulted f) run ts ≡ first acaTask ts
+unfolding named
+named-in-aca f run ts = refl
 
 abbrev pub otherTask : Task → Bool
 otherTask t = not (headTask t)

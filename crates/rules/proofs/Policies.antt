@@ -1,0 +1,46 @@
+-- "Policy survives all."
+use Prim.Native.Nat.{ℕ, _<_}
+use mathlib.Core.Bool.{Bool}
+use mathlib.Core.Path.{_≡_, refl}
+use lib.Dec.{eqb}
+use Rattle.laws.proofs.Bools.{cases}
+use Rattle.rules.specs.Types.{Task, Entry, Finish, Good, CheckCondition, Function, AbortTask, AbortTaskSet, ClearTaskSet, ClearAca, LogicalUnitReset, Unknown, Happening, PowerOn, HardReset, NexusLoss, Event, Completion, Allegiance, Clear, Faulted, Changes, Done, Ruling}
+use Rattle.rules.specs.Rulings.{State, ruled}
+use Rattle.rules.specs.Rules.{finish, clearing, manage, happen, ruling}
+use Rattle.rules.proofs.Cases.{enter-cases, completion-cases, other-cases}
+
+module _ (s : State) where
+  abbrev survives : Ruling → Type 0
+  survives r = ruled s r .header .policy ≡ s .header .policy
+
+  by-finish : (f : Finish) (t : Task) (named : Bool) → survives (Changes Done (finish (s .header) f t named))
+  by-finish Good t named = refl
+  by-finish CheckCondition t named = refl
+
+  by-clearing : (n : ℕ) (a : Allegiance) → survives (clearing (s .header) n a)
+  by-clearing n Clear = refl
+  by-clearing n (Faulted f) = cases survives (eqb n f) (λ e. refl) (λ e. refl)
+
+  by-function : (n : ℕ) (f : Function) → survives (manage (s .header) n f)
+  unfolding manage
+  by-function n (AbortTask g) = refl
+  by-function n AbortTaskSet = refl
+  by-function n ClearTaskSet = refl
+  by-function n ClearAca = by-clearing n (s .header .aca)
+  by-function n LogicalUnitReset = refl
+  by-function n Unknown = refl
+
+  by-condition : (c : Happening) → survives (happen (s .header) c)
+  unfolding happen
+  by-condition PowerOn = refl
+  by-condition HardReset = refl
+  by-condition (NexusLoss n) = refl
+
+  pub policy-survives : (e : Event) → ruled s (ruling s e) .header .policy ≡ s .header .policy
+  policy-survives e =
+      other-cases (λ v r. survives r) s (λ v. refl)
+      (λ n g f. completion-cases survives s n g f refl refl refl (λ t l h k. by-finish f t _))
+      (λ c l. enter-cases survives (s .header) c _ _ _ refl (λ st se. refl) (λ b. refl) (λ p q r k. refl))
+      by-function
+      by-condition
+      e
