@@ -162,10 +162,13 @@ fn is_blocked(s: TaskState) -> bool
 fn fits_settled(may_run: bool, a: Attribute, s: TaskState) -> bool
     ensures { λ r. ⌜ r ≡ settledTask «may_run» a s ⌝ }
 {
-    match s {
-        TaskState::Dormant => !is_aca(a) & !may_run,
-        TaskState::Enabled => !is_aca(a) & may_run,
-        TaskState::Blocked => false,
+    if is_aca(a) {
+        return false;
+    }
+    if may_run {
+        is_running(s)
+    } else {
+        is_dormant(s)
     }
 }
 

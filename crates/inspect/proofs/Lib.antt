@@ -1,2 +1,4 @@
 pub mod Loops
+pub mod Keys
+pub mod Unused
 pub mod TableTest

@@ -1,20 +1,20 @@
 -- One turn of a loop over the records of a table: the next record, and those behind it.
 use Prim.Native.Nat.{ℕ, zero, suc, _+_, _-_, _*_, _≤_, _<_}
 use mathlib.Core.Bool.{true, _&&_}
-use mathlib.Core.Path.{_≡_, refl, sym, ap, _∙_}
-use mathlib.Core.List.{List, _∷_, _++_, append-assoc}
+use mathlib.Core.Path.{_≡_, refl, sym, _∙_}
+use mathlib.Core.List.{List, _∷_}
 use native.Mathlib.Nat.{mul-suc}
 use native.Mathlib.Numerals.{add-one}
 use native.Mathlib.Omega.{arith}
 use borrow.Author.Tests.{eq-eqb, ne-eqb, eqb-true, eqb-false}
 use lib.Dec.{eqb}
-use lib.ListN.{length, getD, take, drop, set}
-use lib.Seq.{drop-drop, drop-set-lt, take-suc-set, slice, slice-cons}
+use lib.ListN.{take, drop}
+use lib.Seq.{drop-drop}
 use Rattle.laws.specs.Records.{recordAt}
 use Rattle.laws.proofs.Bools.{split}
 use Rattle.rules.specs.Tasks.{nexuses}
-use Rattle.records.specs.Records.{nexusSize, taskSize, taskFrom, taskFits, nexusFits, unusedFits}
-use Rattle.records.specs.Tables.{nexusesAt, tasksAt, tasksFrom, nexusesFit, unusedFit}
+use Rattle.records.specs.Records.{nexusSize, taskSize, taskFrom, taskFits, nexusFits}
+use Rattle.records.specs.Tables.{nexusesAt, tasksAt, tasksFrom, nexusesFit}
 use Rattle.decide.specs.Walks.{behindBy, fitsBy}
 use Rattle.inspect.specs.Types.{Allegiance, Older}
 use Rattle.inspect.specs.Tests.{usedFit, keyOf, keysFrom}
@@ -43,12 +43,6 @@ unfolding nexusesFit
 nexuses-end i l = refl
 
 module _ (t : List ℕ) (n i : ℕ) (h : i < n) where
-  pub unused-next :
-      unusedFit (n - i) (drop (tasksAt + taskSize * i) t)
-      ≡ (unusedFits (recordAt taskSize t (tasksAt + taskSize * i)) && unusedFit (n - (i + 1)) (drop (tasksAt + taskSize * (i + 1)) t))
-  unfolding unusedFit
-  unused-next = next taskSize unusedFit (λ k r l. unusedFits r && unusedFit k l) (λ k l. refl) t tasksAt n i h
-
   pub keys-next :
       keysFrom (n - i) (drop (tasksAt + taskSize * i) t)
       ≡ keyOf (taskFrom (recordAt taskSize t (tasksAt + taskSize * i))) ∷ keysFrom (n - (i + 1)) (drop (tasksAt + taskSize * (i + 1)) t)
@@ -74,20 +68,3 @@ module _ (t : List ℕ) (n i : ℕ) (h : i < n) where
       (next taskSize (λ k l. usedFit k aca o l)
       (λ k r l. taskFits r && (fitsBy aca o (taskFrom r) (eqb k 0) && usedFit k aca (behindBy ((taskFrom r) .attribute) o) l))
       (λ k l. refl) t tasksAt n i h)
-
-pub keys-long : (n : ℕ) (l : List ℕ) → length (keysFrom n l) ≡ n
-unfolding keysFrom
-keys-long zero l = refl
-keys-long (suc n) l = ap suc (keys-long n (drop taskSize l))
-
--- The keys in their array ------------------------------------------------------------------------------------------------------------------
-
--- one more stored, of the first n: it joins those before it, and those behind the n stay
-pub store-next :
-    (l rest : List ℕ) (n i v : ℕ) → i < n → i < length l
-    → take (i + 1) (set l i v) ++ (rest ++ drop n (set l i v)) ≡ take i l ++ (v ∷ rest ++ drop n l)
-store-next l rest n i v h room = rw (drop-set-lt n l i v h, add-one, take-suc-set l i v room, append-assoc)
-
--- of the first n from the i-th on: that one, and those behind it
-pub slice-next : (l : List ℕ) (i n : ℕ) → i < n → n ≤ length l → slice i n l ≡ getD l i 0 ∷ slice (i + 1) n l
-slice-next l i n h room = rw (add-one, ← slice-cons i n l 0 h room)

@@ -4,13 +4,16 @@
 --   keyOf t             := nexus and tag as one number
 --   keysFrom n l        := the keys of the first n task records
 --   apart ks            := no two keys are the same
+--   spareKey            := a number that is no task's key, whatever its bytes: nexus 256, tag 0
+--   Spared ks n         := the first n of the 68 are tasks' keys, the others spare
 --   tableTest b         := the test of a table in code's order; that it is `goodTable` is proved (proofs/TableTest)
 --   searchedTurn aca run ts  := whose turn it is, by two searches
-use Prim.Native.Nat.{ℕ, zero, suc, _+_, _-_, _*_}
+use Prim.Native.Nat.{ℕ, zero, suc, _+_, _-_, _*_, _<_, _≤_}
+use mathlib.Core.Path.{_≡_}
 use mathlib.Core.Bool.{Bool, true, false, _&&_, not}
 use mathlib.Core.List.{List, [], _∷_, map}
 use lib.Dec.{eqb}
-use lib.ListN.{length, take, drop}
+use lib.ListN.{length, getD, take, drop}
 use Rattle.laws.specs.Lists.{any, first}
 use Rattle.laws.specs.Records.{recordAt}
 use Rattle.rules.specs.Tasks.{places, nexuses, acaTask, enabledHead, enabledPlain}
@@ -37,6 +40,13 @@ keysFrom (suc n) l = keyOf (taskFrom (take taskSize l)) ∷ keysFrom n (drop tas
 unfoldable pub apart : List ℕ → Bool
 apart [] = true
 apart (k ∷ ks) = not (any (eqb k) ks) && apart ks
+
+abbrev pub spareKey : ℕ
+spareKey = 0x0100_0000
+
+pub record Spared (ks : List ℕ) (n : ℕ) : Type 0 where
+  pub low : (i : ℕ) → i < n → getD ks i 0 < spareKey
+  pub spare : (i : ℕ) → n ≤ i → i < 68 → getD ks i 0 ≡ spareKey
 
 abbrev pub searchedTurn : Allegiance → ℕ → List Task → Turn
 searchedTurn (Faulted f) run ts = turnFound (foundIn (first acaTask ts))

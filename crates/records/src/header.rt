@@ -65,7 +65,7 @@ fn aca_from(n: u8) -> Allegiance
     }
 }
 
-fn aca_number(a: Allegiance) -> u8
+pub fn aca_number(a: Allegiance) -> u8
     requires { ⌜ faultFits a ≡ true ⌝ }
     ensures { λ y. ⌜ y ≡ acaNumber a ⌝ }
 {

@@ -117,7 +117,8 @@ pub fn task_bytes(t: Task) -> [u8; 8]
 pub fn unused_fits(r: [u8; 8]) -> bool
     ensures { λ y. ⌜ y ≡ unusedFits r ⌝ }
 {
-    is_marked(r, 0x54)
+    (r[0] == 0x54)
+        & (r[1] == 0x54)
         & (r[2] == 0)
         & (r[3] == 0)
         & (r[4] == 0)

@@ -1,4 +1,4 @@
-use borrow.Author.Tests.{eq-eqb, ne-eqb}
+use borrow.Author.Needs.{needs}
 use mathlib.Core.Path.{_≡_, refl, _∙_}
 use mathlib.Core.Bool.{Bool, true, not, _&&_}
 use mathlib.Core.List.{List}
@@ -8,8 +8,8 @@ use lib.Dec.{eqb}
 use lib.ListN.{take}
 use lib.Seq.{slice, slice-empty}
 use Rattle.laws.specs.Lists.{any}
-use Rattle.inspect.specs.Tests.{apart}
-use Rattle.inspect.proofs.Loops.{slice-next}
+use Rattle.inspect.specs.Tests.{apart, spareKey}
+use Rattle.inspect.proofs.Keys.{slice-next, slice-past, four}
 use Rattle.inspect.proofs.fits.distinct.Statement.{statement}
 use Rattle.inspect.proofs.fits.distinct.Tie as tie
 
@@ -22,7 +22,7 @@ record Outer (keys : List ℕ) (n : ℕ) (ok : Bool) (i : ℕ) : Type 0 where
 -- and k, which is at i, has been held against those before j
 record Inner (keys : List ℕ) (n i k : ℕ) (ok : Bool) (j : ℕ) : Type 0 where
   here : i < n
-  passed : j ≤ n
+  low : k < spareKey
   clear : ok ≡ true
   rest : (not (any (eqb k) (slice j n keys)) && apart (slice (i + 1) n keys)) ≡ apart (take n keys)
 
@@ -53,41 +53,67 @@ distinct-spec =
     (λ c. omega arith)
     (λ c.
     let turn = c .before .before .pairs in
-    let args = c .before .before .before .args in
+    let start = c .before .before .before in
     let h = c .before .pairs-test .taken in
     record {
       here = h;
-      passed = omega arith;
+      low = start .pre .2 .low (turn .i) h;
       clear = turn .inv .clear;
-      rest = rw (slice-next (args .keys .now) (turn .i) (args .n) h (omega arith)) at (turn .inv .rest);
+      rest = rw (slice-next (start .args .keys .now) (turn .i) (start .args .n) h (omega arith)) at (turn .inv .rest);
     })
     (λ c. omega arith)
     (λ c. omega arith)
     (λ c. omega arith)
     (λ c. omega arith)
+    (λ c. omega arith)
+    (λ c. omega arith)
+    (λ c. omega arith)
+    (λ c. omega arith)
+    (λ c. omega arith)
+    (λ c. omega arith)
+    (λ c. omega arith)
+    (λ c κs. search needs)
+    (λ c. omega arith)
+    (λ c. omega arith)
     (λ c.
-    let turn = c .before .before .before .loop in
-    let args = c .before .before .before .before .before .before .before .args in
+    let at = c .before .before .before .before .before .before .before in
+    let start = at .before .before .before .before in
+    let turn = at .loop in
     record {
       here = turn .inv .here;
-      passed = omega arith;
+      low = turn .inv .low;
       clear = turn .inv .clear;
       rest =
-          rw (slice-next (args .keys .now) (turn .j) (args .n) (c .before .before .loop-test .taken) (omega arith), ne-eqb _ _ (c .if1 .left))
+          rw (
+            four (start .args .keys .now) (start .args .n) _ (start .pre .1) (start .pre .0) (start .pre .2) (turn .inv .low) (turn .j)
+                (c .before .before .before .before .before .before .loop-test .taken),
+            ← c .before .is-among .ensures,
+            c .if1 .left,
+          )
           at (turn .inv .rest);
     })
     (λ c. omega arith)
     (λ c. omega arith)
     (λ c.
     let turn = c .before .loop in
-    let all : turn .j ≡ c .before .before .before .before .before .args .n = omega arith in
-    record { passed = omega arith; clear = turn .inv .clear; rest = rw (all, slice-empty) at (turn .inv .rest) })
+    let args = c .before .before .before .before .before .args in
+    record {
+      passed = omega arith;
+      clear = turn .inv .clear;
+      rest = rw (slice-past (args .keys .now) (turn .j) (args .n) (c .loop-test .left)) at (turn .inv .rest);
+    })
     (λ c.
     let turn = c .before .pairs in
     let all : turn .i ≡ c .before .before .args .n = omega arith in
     turn .inv .clear ∙ (rw (all, slice-empty) at (turn .inv .rest)))
     (λ c.
-    let turn = c .before .before .before .loop in
-    let args = c .before .before .before .before .before .before .before .args in
-    (rw (slice-next (args .keys .now) (turn .j) (args .n) (c .before .before .loop-test .taken) (omega arith), eq-eqb _ _ (c .if1 .taken))
+    let at = c .before .before .before .before .before .before .before in
+    let start = at .before .before .before .before in
+    let turn = at .loop in
+    (rw (
+      four (start .args .keys .now) (start .args .n) _ (start .pre .1) (start .pre .0) (start .pre .2) (turn .inv .low) (turn .j)
+          (c .before .before .before .before .before .before .loop-test .taken),
+      ← c .before .is-among .ensures,
+      c .if1 .taken,
+    )
     at (turn .inv .rest))))

@@ -2,8 +2,9 @@ use borrow.Author.Needs.{needs}
 use native.Mathlib.Omega.{arith}
 use lib.ListN.{drop, length-append, length-drop}
 use lib.Seq.{take-at}
+use Rattle.records.proofs.Good.{bytes-drop}
 use Rattle.inspect.specs.Tests.{keysFrom}
-use Rattle.inspect.proofs.Loops.{keys-long}
+use Rattle.inspect.proofs.Keys.{keys-long, noted-spared}
 use Rattle.inspect.proofs.fits.names_fit.Statement.{statement}
 use Rattle.inspect.proofs.fits.names_fit.Tie as tie
 
@@ -12,9 +13,14 @@ names-fit-spec =
     tie.close
     (tie.spec
     (λ c κs. search needs)
-    (λ c κs. (
+    (λ c κs.
+    let start = c .before .before .before .before in
+    let l = drop 72 (start .args .t .now) in (
       omega arith,
       rw (c .before .note-keys .ensures) (simp (length-append, keys-long, length-drop) (omega arith)),
+      noted-spared (start .args .n) l
+          (bytes-drop (start .args .t .now) 72 (λ i. (c .before .before .before .shared-slice-known .given i) .fits))
+          _ (c .before .note-keys .ensures),
     ))
     (λ c.
     let args = c .before .before .before .before .before .args in

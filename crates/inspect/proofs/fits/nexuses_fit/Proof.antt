@@ -1,6 +1,6 @@
 use borrow.Author.Needs.{needs}
+use borrow.Author.Tests.{not-true, not-false}
 use mathlib.Core.Path.{_≡_, refl, sym, _∙_}
-use mathlib.Core.Bool.{_&&_, and-assoc, and-true}
 use Prim.Native.Nat.{_≤_, _-_, _+_, _*_}
 use native.Mathlib.Omega.{arith}
 use lib.ListN.{drop}
@@ -10,10 +10,10 @@ use Rattle.inspect.proofs.fits.nexuses_fit.Statement.{statement}
 use Rattle.inspect.proofs.fits.nexuses_fit.Tie as tie
 
 abbrev Inv-loop : tie.InvT-loop
-Inv-loop t ok₀ n₀ ok n = (n ≤ 8) × ((ok && nexusesFit n (8 - n) (drop (8 + 8 * n) t)) ≡ nexusesFit 0 8 (drop 8 t))
+Inv-loop t n₀ n = (n ≤ 8) × (nexusesFit n (8 - n) (drop (8 + 8 * n) t) ≡ nexusesFit 0 8 (drop 8 t))
 
 abbrev μ-loop : tie.MeasureT-loop
-μ-loop t ok₀ n₀ ok n = 8 - n
+μ-loop t n₀ n = 8 - n
 
 pub nexuses-fit-spec : {M : Type 1} → statement M
 nexuses-fit-spec =
@@ -27,16 +27,31 @@ nexuses-fit-spec =
     (λ c κs. omega arith)
     (λ c. omega arith)
     (λ c κs. search needs)
+    (λ c.
+    let at = c .before .before .before .before in
+    let fits = c .before .nexus-fits in
+    (rw (
+      nexuses-next (at .before .before .args .t .now) (at .loop .n) (c .before .before .before .loop-test .taken),
+      ← c .before .before .get8 .ensures,
+      ← fits .ensures,
+      not-true (fits .result) (c .if1 .taken),
+    )
+    at (at .loop .inv .1)))
     (λ c. omega arith)
     (λ c. omega arith)
     (λ c.
-    let turn = c .before .before .before .loop in
-    let t = c .before .before .before .before .before .args .t .now in (
+    let at = c .before .before .before .before in
+    let fits = c .before .nexus-fits in (
       omega arith,
-      rw (and-assoc, c .nexus-fits .ensures, c .before .get8 .ensures)
-          (rw (nexuses-next t (turn .n) (c .before .before .loop-test .taken)) at (turn .inv .1)),
+      (rw (
+        nexuses-next (at .before .before .args .t .now) (at .loop .n) (c .before .before .before .loop-test .taken),
+        ← c .before .before .get8 .ensures,
+        ← fits .ensures,
+        not-false (fits .result) (c .if1 .left),
+      )
+          at (at .loop .inv .1)),
     ))
     (λ c.
     let turn = c .before .loop in
     let all : 8 - turn .n ≡ 0 = omega arith in
-    sym (and-true (turn .ok)) ∙ (rw (all, nexuses-end) at (turn .inv .1))))
+    (rw (all, nexuses-end) at (turn .inv .1))))

@@ -5,13 +5,14 @@ use Prim.Native.Nat.{ℕ, _≤_, _-_, _+_, _*_}
 use native.Mathlib.Omega.{arith}
 use lib.ListN.{length, take, drop, length-set, take-append-drop}
 use Rattle.inspect.specs.Tests.{keysFrom}
-use Rattle.inspect.proofs.Loops.{keys-next, store-next}
+use Rattle.inspect.proofs.Loops.{keys-next}
+use Rattle.inspect.proofs.Keys.{store-next}
 use Rattle.inspect.proofs.fits.note_keys.Statement.{statement}
 use Rattle.inspect.proofs.fits.note_keys.Tie as tie
 
 -- i keys are noted, and the rest of the first n is still to come
 record Noted (t : List ℕ) (n : ℕ) (keys₀ keys : List ℕ) (i : ℕ) : Type 0 where
-  long : length keys ≡ 64
+  long : length keys ≡ 68
   passed : i ≤ n
   rest : take i keys ++ (keysFrom (n - i) (drop (72 + 8 * i) t) ++ drop n keys) ≡ keysFrom n (drop 72 t) ++ drop n keys₀
 

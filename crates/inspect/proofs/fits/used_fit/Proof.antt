@@ -4,6 +4,7 @@ use mathlib.Core.Path.{_≡_}
 use Prim.Native.Nat.{_≤_, _-_, _+_, _*_}
 use native.Mathlib.Omega.{arith}
 use lib.ListN.{drop}
+use Rattle.laws.proofs.Bools.{and-off}
 use Rattle.decide.specs.Walks.{noOlder}
 use Rattle.inspect.specs.Tests.{usedFit}
 use Rattle.inspect.proofs.Loops.{used-next}
@@ -29,55 +30,54 @@ used-fit-spec =
     (λ c. omega arith)
     (λ c κs. omega arith)
     (λ c κs. search needs)
-    (λ c.
-    let turn = c .before .before .before .before .loop in
-    let args = c .before .before .before .before .before .before .before .args in
-    let fits = c .before .task-fits in
-    (rw (
-      used-next (args .t .now) (args .n) (turn .i) (c .before .before .before .loop-test .taken) (args .aca) (turn .o),
-      ← c .before .before .get8 .ensures,
-      ← fits .ensures,
-      not-true (fits .result) (c .if1 .taken),
-    )
-    at (turn .inv .1)))
-    (λ c κs. search needs)
     (λ c. omega arith)
     (λ c κs. search needs)
     (λ c.
-    let turn = c .before .before .before .before .before .before .before .loop in
-    let args = c .before .before .before .before .before .before .before .before .before .before .args in
-    let good = c .before .before .before .before .task-fits in
+    let at = c .before .before .before .before .before in
+    let args = at .before .before .before .args in
     let fits = c .before .fits2 in
     (rw (
-      used-next (args .t .now) (args .n) (turn .i) (c .before .before .before .before .before .before .loop-test .taken) (args .aca) (turn .o),
-      ← c .before .before .before .before .before .get8 .ensures,
-      ← good .ensures,
-      not-false (good .result) (c .before .before .before .if1 .left),
+      used-next (args .t .now) (args .n) (at .loop .i) (c .before .before .before .before .loop-test .taken) (args .aca) (at .loop .o),
+      ← c .before .before .before .get8 .ensures,
       ← c .before .before .task-from .ensures,
       ← fits .ensures,
-      not-true (fits .result) (c .if2 .taken),
+      not-true (fits .result) (c .if1 .taken),
+      and-off,
     )
-    at (turn .inv .1)))
+    at (at .loop .inv .1)))
+    (λ c κs. search needs)
+    (λ c.
+    let at = c .before .before .before .before .before .before .before in
+    let args = at .before .before .before .args in
+    let good = c .before .task-fits in
+    (rw (
+      used-next (args .t .now) (args .n) (at .loop .i) (c .before .before .before .before .before .before .loop-test .taken) (args .aca) (at .loop .o),
+      ← c .before .before .before .before .before .get8 .ensures,
+      ← good .ensures,
+      not-true (good .result) (c .if2 .taken),
+    )
+    at (at .loop .inv .1)))
     (λ c κs. search needs)
     (λ c. omega arith)
     (λ c. omega arith)
     (λ c.
-    let turn = c .before .before .before .before .before .before .before .before .loop in
-    let args = c .before .before .before .before .before .before .before .before .before .before .before .args in
-    let good = c .before .before .before .before .before .task-fits in
-    let fits = c .before .before .fits2 in (
+    let at = c .before .before .before .before .before .before .before .before in
+    let args = at .before .before .before .args in
+    let good = c .before .before .task-fits in
+    let read = c .before .before .before .before .before .task-from in
+    let fits = c .before .before .before .before .fits2 in (
       omega arith,
-      rw (c .behind .ensures, c .before .before .before .task-from .ensures)
+      rw (c .behind .ensures, read .ensures)
           (rw (
-            used-next (args .t .now) (args .n) (turn .i) (c .before .before .before .before .before .before .before .loop-test .taken) (args .aca) (turn .o),
+            used-next (args .t .now) (args .n) (at .loop .i) (c .before .before .before .before .before .before .before .loop-test .taken) (args .aca) (at .loop .o),
             ← c .before .before .before .before .before .before .get8 .ensures,
             ← good .ensures,
-            not-false (good .result) (c .before .before .before .before .if1 .left),
-            ← c .before .before .before .task-from .ensures,
+            not-false (good .result) (c .before .if2 .left),
+            ← read .ensures,
             ← fits .ensures,
-            not-false (fits .result) (c .before .if2 .left),
+            not-false (fits .result) (c .before .before .before .if1 .left),
           )
-          at (turn .inv .1)),
+          at (at .loop .inv .1)),
     ))
     (λ c.
     let turn = c .before .loop in
