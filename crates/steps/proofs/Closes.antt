@@ -11,6 +11,7 @@ use Rattle.laws.proofs.Records.{record-long, put-long, put-behind, kept-step, k
 use Rattle.rules.specs.Rulings.{kept, fateOf}
 use Rattle.records.specs.Records.{taskSize, taskFrom, unusedBytes}
 use Rattle.records.specs.Tables.{tasksAt, tasksFrom, unusedRecords}
+use Rattle.steps.proofs.Walks.{each-new}
 use Rattle.steps.specs.Types.{Task, Fate, Stays, Ends, Sweep}
 use Rattle.steps.specs.Steps.{clearedRecord, nextPlace, vacatedBytes, endsFate, goneBy, keptCount, closedBytes}
 use Rattle.steps.specs.Closing.{oneUnless, KeptAs}
@@ -113,11 +114,8 @@ keep-ends {w} {n} {b₀} {b} {k} {i} inv h =
 -- Clearing ---------------------------------------------------------------------------------------------------------------------------------
 
 pub cleared : (m i : ℕ) (l : List ℕ) → eachRecord taskSize clearedRecord nextPlace i m l ≡ unusedRecords m ++ drop (taskSize * m) l
-unfolding eachRecord unusedRecords
-cleared zero i l = refl
-cleared (suc m) i l =
-    let e : taskSize * suc m ≡ taskSize + taskSize * m = omega arith in
-    rw (e, ← drop-drop) (ap (λ (z : List ℕ). unusedBytes ++ z) (cleared m (i + 1) (drop taskSize l)))
+unfolding unusedRecords
+cleared m i l = each-new taskSize (λ k. unusedBytes) (λ k j. unusedRecords k) (λ j. refl) (λ k j. refl) m i l
 
 pub kept-cleared :
     {w : Sweep} {n : ℕ} {b after : List ℕ} {k : ℕ} → KeptAs w n b after k → vacatedBytes k (n - k) after ≡ closedBytes w n b

@@ -1,5 +1,6 @@
 pub mod Walks
 pub mod Closes
+pub mod Nobody
 pub mod Ends
 pub mod Losers
 pub mod Notes

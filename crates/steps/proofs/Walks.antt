@@ -1,13 +1,15 @@
 -- Loops that put every record anew, in place.
-use Prim.Native.Nat.{ℕ, suc, _+_, _-_, _*_, _≤_, _<_}
-use mathlib.Core.Path.{_≡_, refl, sym, _∙_}
-use mathlib.Core.List.{List, _++_}
+use Prim.Native.Nat.{ℕ, zero, suc, _+_, _-_, _*_, _≤_, _<_}
+use mathlib.Core.Path.{_≡_, refl, ap, sym, _∙_}
+use mathlib.Core.List.{List, [], _++_, append-assoc}
 use native.Mathlib.Nat.{mul-suc, mul-zero, mul-le-mul-left}
 use native.Mathlib.Numerals.{add-one}
 use native.Mathlib.Omega.{arith}
+use lib.Seq.{drop-drop}
 use lib.ListN.{length, getD, take, drop, set, length-set}
 use Rattle.laws.specs.Records.{recordAt, putAt, eachRecord}
 use Rattle.laws.proofs.Records.{record-long, record-byte, put-long, each-step, each-end}
+use Rattle.steps.specs.Steps.{nextPlace}
 
 -- a byte of the record at a place, read by its own place
 pub byte-of : (w : ℕ) (b : List ℕ) (at k p : ℕ) → p ≡ at + k → k < w → getD b p 0 ≡ getD (recordAt w b at) k 0
@@ -54,3 +56,14 @@ module _ {S : Type 0} {w : ℕ} {f : S → List ℕ → List ℕ} {g : S → Lis
   walk-ends {b₀} {done} {b} {s} {i} inv h =
       let none-left : n - i ≡ 0 = omega arith in
       sym (each-end w f g s b (at + w * i)) ∙ (rw none-left at (inv .rest))
+
+-- records that are written anew, whatever stood there: all of them, and what is behind them
+pub each-new :
+    (w : ℕ) (new : ℕ → List ℕ) (all : ℕ → ℕ → List ℕ) → ((i : ℕ) → all 0 i ≡ []) → ((m i : ℕ) → all (suc m) i ≡ new i ++ all m (i + 1))
+    → (m i : ℕ) (l : List ℕ) → eachRecord w (λ j r. new j) nextPlace i m l ≡ all m i ++ drop (w * m) l
+unfolding eachRecord
+each-new w new all none one zero i l = rw (none i, mul-zero w)
+each-new w new all none one (suc m) i l =
+    let e : w * suc m ≡ w + w * m = rw mul-suc (omega arith) in
+    let rest : drop (w + w * m) l ≡ drop (w * m) (drop w l) = sym (drop-drop (w * m) w l) in
+    rw (one m i, e, rest, append-assoc) (ap (λ (z : List ℕ). new i ++ z) (each-new w new all none one m (i + 1) (drop w l)))

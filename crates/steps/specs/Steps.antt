@@ -4,6 +4,7 @@
 --   blockedBytes n b     := of the first n tasks the enabled ones blocked
 --   vacatedBytes i n b   := n task records from the i-th on made unused
 --   goneBy w r           := the task of the record ends under the sweep w
+--   endsNobody w         := the sweep is the one under which no task ends
 --   keptCount w n l      := how many of the first n tasks stay
 --   closedBytes w n b    := those that stay of the first n tasks closed up, and the places behind them unused
 --   notedOne k i lost p  := the pending bits of nexus i after the notice k; lost: it lost a task
@@ -22,7 +23,7 @@ use Rattle.rules.specs.Rulings.{kept, lost, fateOf, endedFrom}
 use Rattle.records.specs.Numbers.{attributeFrom, stateNumber, stateFrom, pendingNumber, pendingFrom}
 use Rattle.records.specs.Records.{nexusSize, taskSize, taskFrom, unusedBytes}
 use Rattle.decide.specs.Walks.{noOlder, behindBy, eligibleBy}
-use Rattle.steps.specs.Types.{Task, Pending, Ended, Fate, Stays, Ends, Sweep, Notice, Quiet, Reported, OthersLost, NexusLost, UnitWasReset, HardWasReset, PowerCameOn, Older}
+use Rattle.steps.specs.Types.{Task, Pending, Ended, Fate, Stays, Ends, Sweep, Nobody, OneTask, NexusTasks, AcaTask, AllTasks, ClearedBy, FailedTask, Notice, Quiet, Reported, OthersLost, NexusLost, UnitWasReset, HardWasReset, PowerCameOn, Older}
 use Rattle.records.specs.Tables.{nexusesAt, tasksAt, tasksFrom, unusedRecords}
 
 -- States -----------------------------------------------------------------------------------------------------------------------------------
@@ -60,6 +61,15 @@ endsFate (Ends st) = true
 
 abbrev pub goneBy : Sweep → List ℕ → Bool
 goneBy w r = endsFate (fateOf w (taskFrom r))
+
+abbrev pub endsNobody : Sweep → Bool
+endsNobody Nobody = true
+endsNobody (OneTask n g st) = false
+endsNobody (NexusTasks n) = false
+endsNobody AcaTask = false
+endsNobody AllTasks = false
+endsNobody (ClearedBy n p) = false
+endsNobody (FailedTask n g p) = false
 
 abbrev pub keptCount : Sweep → ℕ → List ℕ → ℕ
 keptCount w n l = length (kept (map (fateOf w) (tasksFrom n l)) (tasksFrom n l))

@@ -9,7 +9,7 @@ use rules::Sweep;
 ghost use mathlib.Core.Path.{_≡_};
 ghost use Prim.Native.Nat.{_+_, _-_, _≤_};
 ghost use lib.ListN.{length, drop};
-ghost use Rattle.steps.specs.Steps.{endsFate, goneBy, keptCount, vacatedBytes, closedBytes};
+ghost use Rattle.steps.specs.Steps.{endsFate, endsNobody, goneBy, keptCount, vacatedBytes, closedBytes};
 ghost use Rattle.steps.specs.Closing.{oneUnless, KeptAs};
 
 pub fn is_end(f: Fate) -> bool
@@ -33,11 +33,29 @@ fn one_unless(g: bool) -> usize
     if g { 0 } else { 1 }
 }
 
+// Asked first, so that a command's entry passes over no record that it leaves.
+pub fn ends_nobody(w: Sweep) -> bool
+    ensures { λ r. ⌜ r ≡ endsNobody w ⌝ }
+{
+    match w {
+        Sweep::Nobody => true,
+        Sweep::OneTask(_, _, _) => false,
+        Sweep::NexusTasks(_) => false,
+        Sweep::AcaTask => false,
+        Sweep::AllTasks => false,
+        Sweep::ClearedBy(_, _) => false,
+        Sweep::FailedTask(_, _, _) => false,
+    }
+}
+
 // Every record is put where the next kept one goes, and counts if it stays: one path, and nothing ahead is touched.
 fn keep(t: &mut [u8], n: usize, w: Sweep) -> usize
     requires { ⌜ (length (now t) ≡ 584) × (n ≤ 64) ⌝ }
     ensures { λ k. ⌜ KeptAs w n (now (t .entry)) (now (t .exit)) k ⌝ }
 {
+    if ends_nobody(w) {
+        return n;
+    }
     let mut k: usize = 0;
     let mut i: usize = 0;
     while i < n {

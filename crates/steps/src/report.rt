@@ -1,4 +1,5 @@
 // The ended tasks listed in their former age order, and the rest of the report zeroed.
+use crate::close::ends_nobody;
 use decide::fates::fate;
 use records::bytes::get8;
 use records::bytes::put8;
@@ -43,6 +44,9 @@ fn list_ends(t: &[u8], n: usize, w: Sweep, report: &mut [u8]) -> usize
     requires { ⌜ (length (now t) ≡ 584) × (n ≤ 64) × (length (now report) ≡ 512) ⌝ }
     ensures { λ m. ⌜ ListedAs (endsOf w n (drop 72 (now (t .entry)))) (now (report .entry)) (now (report .exit)) m ⌝ }
 {
+    if ends_nobody(w) {
+        return 0;
+    }
     let mut m: usize = 0;
     let mut i: usize = 0;
     while i < n {

@@ -5,10 +5,8 @@ use mathlib.Core.Path.{_≡_, refl, ap, sym, _∙_}
 use mathlib.Core.List.{List, [], _∷_}
 use mathlib.Core.Option.{Option, none, some}
 use native.Mathlib.Omega.{arith}
-use lib.Dec.{ltb}
 use lib.ListN.{length, getD, take, drop}
 use lib.Seq.{drop-drop, getD-drop, getD-take}
-use borrow.Author.Tests.{lt-ltb}
 use Rattle.laws.specs.Lists.{any, first}
 use Rattle.laws.specs.Records.{recordAt}
 use Rattle.rules.specs.Tasks.{acaTask, same, named, turnOf, isNamed}
@@ -16,30 +14,27 @@ use Rattle.rules.specs.Bits.{noPending}
 use Rattle.rules.specs.Rulings.{State, pendingOf, turn}
 use Rattle.rules.specs.Rules.{enter, complete, manage, happen, nexusOf, ruleFor, ruling}
 use Rattle.rules.specs.Well.{statesFit}
+use Rattle.rules.proofs.Cases.{ruling-low, rule-command, rule-completion, rule-management, rule-condition}
 use Rattle.rules.proofs.Settled.{settled-ordinary}
-use Rattle.rules.proofs.WellKept.{Tested, to-tested}
+use Rattle.rules.proofs.Turns.{named-in-aca}
+use Rattle.rules.proofs.WellKept.{Tested}
 use Rattle.records.specs.Numbers.{pendingFrom}
 use Rattle.records.specs.Records.{pendingIn, headerFrom}
 use Rattle.records.specs.Tables.{tasksFrom, pendingsFrom, stateOf, goodTable}
-use Rattle.records.proofs.Good.{table-tested}
+use Rattle.records.proofs.Good.{good-tested}
 use Rattle.decide.specs.Searches.{foundIn, chosen, turnFound}
 use Rattle.decide.proofs.Walks.{turn-found, chosen-named}
 use Rattle.inspect.specs.Tests.{searchedTurn}
 use Rattle.table.specs.Types.{Task, Event, Command, Completion, Management, Condition, Allegiance, Clear, Faulted, Header, Pending, Turn}
 use Rattle.table.specs.Deciding.{hasAca, pendingAt, searchedRuling}
 
--- the state that a good table says passes the test of well-formed states
-pub good-tested : (b : List ℕ) → goodTable b ≡ true → Tested (stateOf b)
-good-tested b e = to-tested (stateOf b) (table-tested b e .well)
-
 has-aca-is : (a : Allegiance) (ts : List Task) → statesFit a ts ≡ true → hasAca a ts ≡ any acaTask ts
 has-aca-is Clear ts e = sym (settled-ordinary [] ts e)
 has-aca-is (Faulted f) ts e = refl
 
 pub searched-turn-is : (a : Allegiance) (run : ℕ) (ts : List Task) → statesFit a ts ≡ true → searchedTurn a run ts ≡ turnOf (named a run ts)
-unfolding named
 searched-turn-is Clear run ts e = chosen-named run ts e
-searched-turn-is (Faulted f) run ts e = turn-found (first acaTask ts)
+searched-turn-is (Faulted f) run ts e = rw (named-in-aca f run ts) (turn-found (first acaTask ts))
 
 pendings-at : (k n : ℕ) (l : List ℕ) → n < k → getD (pendingsFrom k l) n noPending ≡ pendingFrom (getD l (8 * n + 3) 0)
 unfolding pendingsFrom
@@ -63,24 +58,25 @@ at-nexus b n h = pending-at-is b n h
 rule-for :
     (b : List ℕ) (e : Event) → Tested (stateOf b) → nexusOf e < 8
     → searchedRuling b ((stateOf b) .header) e ((stateOf b) .tasks) ≡ ruleFor (stateOf b) e
-unfolding searchedRuling ruleFor
+unfolding searchedRuling
 rule-for b (Command c) w l =
     ap (λ (a : Bool). enter ((stateOf b) .header) c (any (same (c .nexus) (c .tag)) ((stateOf b) .tasks)) a (pendingAt b (c .nexus)))
     (has-aca-is ((stateOf b) .header .aca) ((stateOf b) .tasks) (w .states))
     ∙ ap (λ (p : Pending).
     enter ((stateOf b) .header) c (any (same (c .nexus) (c .tag)) ((stateOf b) .tasks)) (any acaTask ((stateOf b) .tasks)) p)
     (at-nexus b (c .nexus) l)
+    ∙ sym (rule-command (stateOf b) c)
 rule-for b (Completion n g f) w l =
     ap (λ (u : Turn). complete ((stateOf b) .header) (first (same n g) ((stateOf b) .tasks)) f (isNamed n g u))
     (searched-turn-is ((stateOf b) .header .aca) ((stateOf b) .header .run) ((stateOf b) .tasks) (w .states))
-rule-for b (Management n f) w l = refl
-rule-for b (Condition c) w l = refl
+    ∙ sym (rule-completion (stateOf b) n g f)
+rule-for b (Management n f) w l = sym (rule-management (stateOf b) n f)
+rule-for b (Condition c) w l = sym (rule-condition (stateOf b) c)
 
 pub searched-ruling-is :
     (b : List ℕ) (e : Event) → goodTable b ≡ true → nexusOf e < 8
     → searchedRuling b ((stateOf b) .header) e ((stateOf b) .tasks) ≡ ruling (stateOf b) e
-unfolding ruling
-searched-ruling-is b e g l = rw (lt-ltb (nexusOf e) 8 l) (rule-for b e (good-tested b g) l)
+searched-ruling-is b e g l = rule-for b e (good-tested b g) l ∙ sym (ruling-low (stateOf b) e l)
 
 -- What code reads of a good table ------------------------------------------------------------------------------------------------------------
 

@@ -14,6 +14,7 @@ use Rattle.records.specs.Records.{headSize, nexusSize, headerBytes, nexusBytes}
 use Rattle.records.specs.Tables.{tableSize, tasksAt, nexusRecords, unusedRecords, tableBytes}
 use Rattle.steps.specs.Steps.{nextPlace}
 use Rattle.steps.proofs.Closes.{cleared}
+use Rattle.steps.proofs.Walks.{each-new}
 use Rattle.table.specs.Types.{Policy, Pending}
 use Rattle.table.specs.Fresh.{freshNexus, freshNexuses, freshTasks}
 
@@ -23,11 +24,9 @@ powerOn = afterPowerOn noPending
 renewed :
     (m i : ℕ) (l : List ℕ)
     → eachRecord nexusSize freshNexus nextPlace i m l ≡ nexusRecords i (replicate m powerOn) ++ drop (nexusSize * m) l
-unfolding eachRecord nexusRecords
-renewed zero i l = refl
-renewed (suc m) i l =
-    let e : nexusSize * suc m ≡ nexusSize + nexusSize * m = omega arith in
-    rw (e, ← drop-drop, ← add-one i) (ap (λ (z : List ℕ). nexusBytes i powerOn ++ z) (renewed m (i + 1) (drop nexusSize l)))
+unfolding nexusRecords
+renewed m i l =
+    each-new nexusSize (λ j. nexusBytes j powerOn) (λ k j. nexusRecords j (replicate k powerOn)) (λ j. refl) (λ k j. rw (add-one j)) m i l
 
 module _ (b head : List ℕ) (long : length b ≡ tableSize) (wide : length head ≡ headSize) where
   told : List ℕ

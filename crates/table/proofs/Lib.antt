@@ -1,4 +1,3 @@
 pub mod Decided
-pub mod Carried
 pub mod Fresh
 pub mod Looked

@@ -5,8 +5,9 @@ use mathlib.Core.Path.{_≡_, refl, ap, _∙_}
 use mathlib.Core.List.{List, []}
 use lib.Dec.{eqb}
 use lib.ListN.{length, replicate}
-use borrow.Author.Tests.{eq-eqb, ne-eqb, le-ltb}
+use borrow.Author.Tests.{eq-eqb, ne-eqb}
 use Rattle.rules.specs.Rules.{nexusOf, ruling}
+use Rattle.rules.proofs.Cases.{ruling-high}
 use Rattle.records.specs.Tables.{stateOf, reportBytes, goodTable}
 use Rattle.records.specs.Events.{eventOf}
 use Rattle.table.specs.Types.{Event, Answer, BadTable, BadReport, BadEvent, NexusAboveSeven, EventRead, Readable, Unreadable, Applied}
@@ -42,5 +43,4 @@ module _ (t r e : List ℕ) where
     ruled-on v f = looked (Readable v) f
 
     pub no-nexus : (v : Event) → eventOf e ≡ Readable v → 8 ≤ nexusOf v → outcome t r e ≡ refused NexusAboveSeven t r
-    unfolding ruling
-    no-nexus v f g = ruled-on v f ∙ rw (le-ltb (nexusOf v) 8 g)
+    no-nexus v f g = ruled-on v f ∙ rw (ruling-high (stateOf t) v g)

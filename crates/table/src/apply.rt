@@ -1,7 +1,7 @@
 // Apply one event.
-use crate::carry::change;
 use crate::rule::nexus_of;
 use crate::rule::rule;
+use carry::change::change;
 use inspect::fits::table_fits;
 use records::bytes::get8;
 use records::events::EventRead;
@@ -55,7 +55,7 @@ fn zero_if(report: &mut [u8], write: bool)
 }
 
 fn carry_out(t: &mut [u8], report: &mut [u8], h: Header, r: Ruling) -> Applied
-    requires { ⌜ (goodTable (now t) ≡ true) × (length (now report) ≡ 512) × (h ≡ (stateOf (now t)) .header) × (wellFormed (ruled (stateOf (now t)) r) ≡ true) ⌝ }
+    requires { ⌜ (goodTable (now t) ≡ true) × (length (now report) ≡ 512) × (h ≡ (stateOf (now t)) .header) × (wellFormed (ruled (stateOf (now t)) r) ≡ true) × (ruled (stateOf (now t)) r .header .policy ≡ stateOf (now t) .header .policy) ⌝ }
     ensures { λ a. ⌜ AppliedAs (carried (now (t .entry)) (now (report .entry)) (stateOf (now (t .entry))) r) a (now (t .exit)) (now (report .exit)) ⌝ }
 {
     let aca = h.aca;

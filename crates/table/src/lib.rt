@@ -1,6 +1,5 @@
 // The operations on a lent table: start, apply, name.
 pub mod apply;
-pub mod carry;
 pub mod name;
 pub mod rule;
 pub mod start;

@@ -1,6 +1,8 @@
 use borrow.Author.Needs.{needs}
 use Prim.Native.Nat.{_-_}
+use mathlib.Core.Path.{sym, _∙_}
 use native.Mathlib.Omega.{arith}
+use Rattle.steps.proofs.Nobody.{nobody-closes}
 use Rattle.steps.proofs.Closes.{Keeping, keep-begins, keep-on, keep-ends}
 use Rattle.steps.proofs.close.keep.Statement.{statement}
 use Rattle.steps.proofs.close.keep.Tie as tie
@@ -17,6 +19,8 @@ keep-spec =
     (tie.spec
     Inv-loop
     μ-loop
+    (λ c κs. search needs)
+    (λ c. nobody-closes _ _ _ (sym (c .before .ends-nobody .ensures) ∙ c .if1 .taken))
     (λ c. keep-begins _ _ _ (omega arith))
     (λ c. search needs)
     (λ c. search needs)

@@ -2,11 +2,12 @@ use borrow.Author.Needs.{needs}
 use native.Mathlib.Omega.{arith}
 use mathlib.Core.Path.{sym, _∙_}
 use Rattle.rules.specs.Rules.{ruling}
+use Rattle.rules.proofs.Policies.{policy-survives}
 use Rattle.rules.proofs.WellKept.{tested-ruling, from-tested}
 use Rattle.rules.specs.Rulings.{ruled}
 use Rattle.records.specs.Tables.{stateOf}
-use Rattle.records.proofs.Good.{table-tested}
-use Rattle.table.proofs.Decided.{good-tested, good-few, header-read, ruling-read}
+use Rattle.records.proofs.Good.{table-tested, good-tested}
+use Rattle.table.proofs.Decided.{good-few, header-read, ruling-read}
 use Rattle.table.proofs.apply.on_event.Statement.{statement}
 use Rattle.table.proofs.apply.on_event.Tie as tie
 
@@ -40,6 +41,7 @@ on-event-spec =
       h,
       rw (rule .rule .ensures, ruling-read t (read .header-from .result) (start .pre .0) h e (start .pre .2))
           (from-tested (ruled (stateOf t) (ruling (stateOf t) e)) (tested-ruling (stateOf t) e (good-tested t (start .pre .0)))),
+      rw (rule .rule .ensures, ruling-read t (read .header-from .result) (start .pre .0) h e (start .pre .2)) (policy-survives (stateOf t) e),
     ))
     (λ c. search needs)
     (λ c. search needs)

@@ -4,25 +4,25 @@ use mathlib.Core.Bool.{true}
 use mathlib.Core.Path.{_≡_, refl, ap, sym, _∙_}
 use mathlib.Core.List.{List, [], _∷_, _++_, map, append-nil}
 use native.Mathlib.Omega.{arith}
-use lib.ListN.{length, drop, length-append}
-use Rattle.laws.specs.Records.{putAt}
+use lib.ListN.{length, drop, set, length-append, take-append-drop}
+use Rattle.laws.specs.Records.{recordAt, putAt}
 use Rattle.rules.specs.Tasks.{settleFrom, restate}
 use Rattle.rules.specs.Rulings.{State, withCount, kept, lost, fateOf, newcomers, noted, tasksAfter, ruled, reportOf}
 use Rattle.rules.specs.Well.{faultFits}
 use Rattle.rules.proofs.Fates.{length-split}
 use Rattle.rules.proofs.Distinct.{length-restate}
 use Rattle.rules.proofs.WellKept.{Tested, to-tested, length-noted}
+use Rattle.records.specs.Numbers.{acaNumber}
 use Rattle.records.specs.Records.{headerBytes}
 use Rattle.records.specs.Tables.{Bytes, stateOf, tableBytes, reportBytes}
-use Rattle.records.proofs.Good.{table-tested, table-good}
+use Rattle.records.proofs.Good.{table-tested, good-tested, table-good}
 use Rattle.steps.specs.Steps.{losers, keptCount, closedBytes, endsOf}
 use Rattle.steps.proofs.Carried.{withTasks, withPending, withHeader, settled-table, blocked-table}
 use Rattle.steps.proofs.Closed.{kept-count, losers-are, ends-are, closed-table, joined-table, header-table}
 use Rattle.steps.proofs.Noted.{noted-table}
-use Rattle.table.specs.Types.{Task, Pending, Header, Ended, Allegiance, Clear, Faulted, Bit, Fate, Notice, Quiet, Reported, OthersLost, NexusLost, UnitWasReset, HardWasReset, PowerCameOn, Joins, NoTask, NewTask, Change, Done, Changes}
-use Rattle.table.specs.Carrying.{notedUnlessQuiet, joinedBytes, restatedBytes}
-use Rattle.table.specs.Changes.{ChangeFits, ChangedAs}
-use Rattle.table.proofs.Decided.{good-tested}
+use Rattle.steps.specs.Types.{Task, Pending, Header, Ended, Allegiance, Clear, Faulted, Bit, Fate, Notice, Quiet, Reported, OthersLost, NexusLost, UnitWasReset, HardWasReset, PowerCameOn, Joins, NoTask, NewTask, Change, Done, Changes}
+use Rattle.carry.specs.Carrying.{notedUnlessQuiet, joinedBytes, restatedBytes, HeaderKept}
+use Rattle.carry.specs.Changes.{ChangeFits, ChangedAs}
 
 module _ (s : State) (eight : length (s .pending) ≡ 8) where
   noted-step : (k : Notice) (ls : List Task) → notedUnlessQuiet k ls (tableBytes s) ≡ tableBytes (withPending s (noted k ls (s .pending)))
@@ -71,46 +71,67 @@ module _ (s : State) (c : Change) (eight : length (s .pending) ≡ 8) (b t1 : Li
   stay-count k ek =
       ek ∙ ap (λ (z : List ℕ). keptCount (c .sweep) (length (s .tasks)) (drop 72 z)) noted-first ∙ kept-count told told-eight (c .sweep)
 
--- every step of a change, one after the other
-change-table :
-    (s : State) (c : Change) → length (s .pending) ≡ 8 → length (s .tasks) ≤ 64
-    → length (kept (map (fateOf (c .sweep)) (s .tasks)) (s .tasks) ++ newcomers (c .joins)) ≤ 64
-    → (b t1 t2 t3 t4 t5 : List ℕ) (k m : ℕ) → b ≡ tableBytes s
-    → t1 ≡ notedUnlessQuiet (c .notice) (losers (c .sweep) (length (s .tasks)) (drop 72 b)) b
-    → k ≡ keptCount (c .sweep) (length (s .tasks)) (drop 72 t1)
-    → t2 ≡ closedBytes (c .sweep) (length (s .tasks)) t1
-    → m ≡ k + length (newcomers (c .joins))
-    → t3 ≡ joinedBytes (c .joins) k t2
-    → t4 ≡ restatedBytes (s .header .aca) (c .header .aca) m t3
-    → t5 ≡ putAt 8 t4 0 (headerBytes (withCount (c .header) m))
-    → t5 ≡ tableBytes (ruled s (Changes Done c))
-change-table s c eight few room b t1 t2 t3 t4 t5 k m eb e1 ek e2 em e3 e4 e5 =
-    let w = c .sweep in
-    let n = length (s .tasks) in
-    let s1 = told s c eight b t1 eb e1 in
-    let rest = stay s c eight b t1 eb e1 in
-    let all = rest ++ newcomers (c .joins) in
-    let s2 = withTasks s1 rest in
-    let s3 = withTasks s1 all in
-    let s4 = withTasks s1 (restate (s .header .aca) (c .header .aca) all) in
-    let eight1 = told-eight s c eight b t1 eb e1 in
-    let f1 : t1 ≡ tableBytes s1 = noted-first s c eight b t1 eb e1 in
-    let fk : k ≡ length rest = stay-count s c eight b t1 eb e1 k ek in
-    let f2 : t2 ≡ tableBytes s2 = e2 ∙ ap (closedBytes w n) f1 ∙ closed-table s1 eight1 w few in
-    let f3 : t3 ≡ tableBytes s3 =
-    e3 ∙ ap (λ (z : List ℕ). joinedBytes (c .joins) k z) f2 ∙ ap (λ (i : ℕ). joinedBytes (c .joins) i (tableBytes s2)) fk
-    ∙ joined-step s2 eight1 (c .joins) room
-    in
-    let fm : m ≡ length all = em ∙ ap (λ (i : ℕ). i + length (newcomers (c .joins))) fk ∙ sym (length-append rest (newcomers (c .joins))) in
-    let f4 : t4 ≡ tableBytes s4 =
-    e4 ∙ ap (restatedBytes (s .header .aca) (c .header .aca) m) f3
-    ∙ ap (λ (i : ℕ). restatedBytes (s .header .aca) (c .header .aca) i (tableBytes s3)) fm
-    ∙ restated-step s3 eight1 (s .header .aca) (c .header .aca)
-    in
-    let fh : m ≡ length (tasksAfter s c) = fm ∙ sym (length-restate (s .header .aca) (c .header .aca) all) in
-    e5 ∙ ap (λ (z : List ℕ). putAt 8 z 0 (headerBytes (withCount (c .header) m))) f4
-    ∙ ap (λ (i : ℕ). putAt 8 (tableBytes s4) 0 (headerBytes (withCount (c .header) i))) fh
-    ∙ header-table s4 (withCount (c .header) (length (tasksAfter s c)))
+-- every step of a change but the last, one after the other
+module _ (s : State) (c : Change) (eight : length (s .pending) ≡ 8) (few : length (s .tasks) ≤ 64)
+    (room : length (kept (map (fateOf (c .sweep)) (s .tasks)) (s .tasks) ++ newcomers (c .joins)) ≤ 64)
+    (b t1 t2 t3 t4 : List ℕ) (k m : ℕ) (eb : b ≡ tableBytes s)
+    (e1 : t1 ≡ notedUnlessQuiet (c .notice) (losers (c .sweep) (length (s .tasks)) (drop 72 b)) b)
+    (ek : k ≡ keptCount (c .sweep) (length (s .tasks)) (drop 72 t1))
+    (e2 : t2 ≡ closedBytes (c .sweep) (length (s .tasks)) t1)
+    (em : m ≡ k + length (newcomers (c .joins)))
+    (e3 : t3 ≡ joinedBytes (c .joins) k t2)
+    (e4 : t4 ≡ restatedBytes (s .header .aca) (c .header .aca) m t3) where
+  abbrev all : List Task
+  all = stay s c eight b t1 eb e1 ++ newcomers (c .joins)
+
+  abbrev restated : State
+  restated = withTasks (told s c eight b t1 eb e1) (restate (s .header .aca) (c .header .aca) all)
+
+  all-count : m ≡ length all
+  all-count =
+      em ∙ ap (λ (i : ℕ). i + length (newcomers (c .joins))) (stay-count s c eight b t1 eb e1 k ek)
+      ∙ sym (length-append (stay s c eight b t1 eb e1) (newcomers (c .joins)))
+
+  restated-last : t4 ≡ tableBytes restated
+  restated-last =
+      let w = c .sweep in
+      let n = length (s .tasks) in
+      let s1 = told s c eight b t1 eb e1 in
+      let rest = stay s c eight b t1 eb e1 in
+      let s2 = withTasks s1 rest in
+      let s3 = withTasks s1 all in
+      let eight1 = told-eight s c eight b t1 eb e1 in
+      let f2 : t2 ≡ tableBytes s2 = e2 ∙ ap (closedBytes w n) (noted-first s c eight b t1 eb e1) ∙ closed-table s1 eight1 w few in
+      let f3 : t3 ≡ tableBytes s3 =
+      e3 ∙ ap (λ (z : List ℕ). joinedBytes (c .joins) k z) f2
+      ∙ ap (λ (i : ℕ). joinedBytes (c .joins) i (tableBytes s2)) (stay-count s c eight b t1 eb e1 k ek)
+      ∙ joined-step s2 eight1 (c .joins) room
+      in
+      e4 ∙ ap (restatedBytes (s .header .aca) (c .header .aca) m) f3
+      ∙ ap (λ (i : ℕ). restatedBytes (s .header .aca) (c .header .aca) i (tableBytes s3)) all-count
+      ∙ restated-step s3 eight1 (s .header .aca) (c .header .aca)
+
+  header-stands : recordAt 8 t4 0 ≡ headerBytes (s .header)
+  unfolding tableBytes
+  header-stands = rw restated-last
+
+  change-table : (t5 : List ℕ) → t5 ≡ putAt 8 t4 0 (headerBytes (withCount (c .header) m)) → t5 ≡ tableBytes (ruled s (Changes Done c))
+  change-table t5 e5 =
+      let fh : m ≡ length (tasksAfter s c) = all-count ∙ sym (length-restate (s .header .aca) (c .header .aca) all) in
+      e5 ∙ ap (λ (z : List ℕ). putAt 8 z 0 (headerBytes (withCount (c .header) m))) restated-last
+      ∙ ap (λ (i : ℕ). putAt 8 (tableBytes restated) 0 (headerBytes (withCount (c .header) i))) fh
+      ∙ header-table restated (withCount (c .header) (length (tasksAfter s c)))
+
+-- the three bytes of a header that can change
+stored : (l rest : List ℕ) (was h : Header) → l ≡ headerBytes was ++ rest → was .policy ≡ h .policy
+    → set (set (set l 4 (h .count)) 5 (acaNumber (h .aca))) 6 (h .run) ≡ headerBytes h ++ rest
+stored l rest was h e p = rw (e, p)
+
+pub header-stored :
+    (t : List ℕ) (h : Header) (k : HeaderKept t h)
+    → set (set (set t 4 (h .count)) 5 (acaNumber (h .aca))) 6 (h .run) ≡ putAt 8 t 0 (headerBytes h)
+header-stored t h k =
+    stored t (drop 8 t) (k .was) h (sym (take-append-drop 8 t) ∙ ap (λ (r : List ℕ). r ++ drop 8 t) (k .stands)) (k .policy)
 
 -- What the steps ask and give, where a change fits -----------------------------------------------------------------------------------------
 
@@ -162,27 +183,41 @@ module _ {t r : List ℕ} {n : ℕ} {before : Allegiance} {c : Change} (fits : C
         ∙ ap (λ (z : List ℕ). endsOf (c .sweep) (length ((stateOf t) .tasks)) (drop 72 z)) written
         ∙ ends-are (stateOf t) (whole .eight) (c .sweep)
 
-    pub changed :
-        (t2 t3 t4 t5 rep : List ℕ) (m q : ℕ)
-        → t2 ≡ closedBytes (c .sweep) n t1
-        → m ≡ k + length (newcomers (c .joins))
-        → t3 ≡ joinedBytes (c .joins) k t2
-        → t4 ≡ restatedBytes before (c .header .aca) m t3
-        → t5 ≡ putAt 8 t4 0 (headerBytes (withCount (c .header) m))
-        → q ≡ length (endsOf (c .sweep) n (drop 72 t))
-        → rep ≡ reportBytes (endsOf (c .sweep) n (drop 72 t))
-        → q ≤ 64
-        → ChangedAs t c t5 rep q
-    changed t2 t3 t4 t5 rep m q e2 em e3 e4 e5 eq er few =
-        record {
-          table =
-              change-table (stateOf t) c (whole .eight) (whole .few) room t t1 t2 t3 t4 t5 k m written (rw counted at e1) (rw counted at ek)
-              (rw counted at e2)
-              em
-              e3
-              (rw (fits .aca) at e4)
-              e5;
-          report = er ∙ ap reportBytes ends;
-          ended = eq ∙ ap (λ (es : List Ended). length es) ends;
-          few = few;
-        }
+    module _ (t2 t3 t4 : List ℕ) (m : ℕ) (e2 : t2 ≡ closedBytes (c .sweep) n t1) (em : m ≡ k + length (newcomers (c .joins)))
+        (e3 : t3 ≡ joinedBytes (c .joins) k t2) (e4 : t4 ≡ restatedBytes before (c .header .aca) m t3) where
+      pub header-kept : length t4 ≡ 584 → HeaderKept t4 (withCount (c .header) m)
+      header-kept long =
+          record {
+            long = omega arith;
+            fault = change-fault;
+            was = (stateOf t) .header;
+            stands =
+                header-stands (stateOf t) c (whole .eight) (whole .few) room t t1 t2 t3 t4 k m written (rw counted at e1) (rw counted at ek)
+                (rw counted at e2)
+                em
+                e3
+                (rw (fits .aca) at e4);
+            policy = sym (fits .policy);
+          }
+
+      pub changed :
+          (t5 rep : List ℕ) (q : ℕ)
+          → t5 ≡ putAt 8 t4 0 (headerBytes (withCount (c .header) m))
+          → q ≡ length (endsOf (c .sweep) n (drop 72 t))
+          → rep ≡ reportBytes (endsOf (c .sweep) n (drop 72 t))
+          → q ≤ 64
+          → ChangedAs t c t5 rep q
+      changed t5 rep q e5 eq er few =
+          record {
+            table =
+                change-table (stateOf t) c (whole .eight) (whole .few) room t t1 t2 t3 t4 k m written (rw counted at e1) (rw counted at ek)
+                (rw counted at e2)
+                em
+                e3
+                (rw (fits .aca) at e4)
+                t5
+                e5;
+            report = er ∙ ap reportBytes ends;
+            ended = eq ∙ ap (λ (es : List Ended). length es) ends;
+            few = few;
+          }

@@ -1,7 +1,7 @@
 use borrow.Author.Needs.{needs}
 use native.Mathlib.Omega.{arith}
-use Rattle.table.proofs.carry.join.Statement.{statement}
-use Rattle.table.proofs.carry.join.Tie as tie
+use Rattle.carry.proofs.change.join.Statement.{statement}
+use Rattle.carry.proofs.change.join.Tie as tie
 
 pub join-spec : {M : Type 1} → statement M
 join-spec =

@@ -1,6 +1,6 @@
 use borrow.Author.Needs.{needs}
-use Rattle.table.proofs.carry.note_if.Statement.{statement}
-use Rattle.table.proofs.carry.note_if.Tie as tie
+use Rattle.carry.proofs.change.note_if.Statement.{statement}
+use Rattle.carry.proofs.change.note_if.Tie as tie
 
 pub note-if-spec : {M : Type 1} → statement M
 note-if-spec =

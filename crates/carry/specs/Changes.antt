@@ -7,13 +7,14 @@ use lib.ListN.{length}
 use Rattle.rules.specs.Rulings.{ruled, reportOf}
 use Rattle.rules.specs.Well.{wellFormed}
 use Rattle.records.specs.Tables.{stateOf, tableBytes, reportBytes, goodTable}
-use Rattle.table.specs.Types.{Allegiance, Change, Done, Changes}
+use Rattle.steps.specs.Types.{Allegiance, Change, Done, Changes}
 
 pub record ChangeFits (t r : List ℕ) (n : ℕ) (before : Allegiance) (c : Change) : Type 0 where
   pub good : goodTable t ≡ true
   pub report : length r ≡ 512
   pub counted : n ≡ (stateOf t) .header .count
   pub aca : before ≡ (stateOf t) .header .aca
+  pub policy : c .header .policy ≡ (stateOf t) .header .policy
   pub well : wellFormed (ruled (stateOf t) (Changes Done c)) ≡ true
 
 pub record ChangedAs (t : List ℕ) (c : Change) (after rep : List ℕ) (m : ℕ) : Type 0 where

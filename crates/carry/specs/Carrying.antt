@@ -3,12 +3,17 @@
 --   notedUnlessQuiet k ls b  := the nexus records after a notice, if there is one
 --   joinedBytes j k b        := a task that joins is put at place k
 --   restatedBytes a b n l    := the states brought up to date, by the allegiance before and after
-use Prim.Native.Nat.{ℕ, _+_, _*_}
+--   HeaderKept t h           := the table has a header record already, of the policy of h
+use Prim.Native.Nat.{ℕ, _+_, _*_, _≤_}
+use mathlib.Core.Bool.{true}
+use mathlib.Core.Path.{_≡_}
 use mathlib.Core.List.{List}
-use Rattle.laws.specs.Records.{putAt}
-use Rattle.records.specs.Records.{taskBytes}
+use lib.ListN.{length}
+use Rattle.laws.specs.Records.{recordAt, putAt}
+use Rattle.rules.specs.Well.{faultFits}
+use Rattle.records.specs.Records.{headerBytes, taskBytes}
 use Rattle.steps.specs.Steps.{settledBytes, blockedBytes, notedBytes}
-use Rattle.table.specs.Types.{Task, Allegiance, Clear, Faulted, Bit, Notice, Quiet, Reported, OthersLost, NexusLost, UnitWasReset, HardWasReset, PowerCameOn, Joins, NoTask, NewTask}
+use Rattle.steps.specs.Types.{Task, Header, Allegiance, Clear, Faulted, Bit, Notice, Quiet, Reported, OthersLost, NexusLost, UnitWasReset, HardWasReset, PowerCameOn, Joins, NoTask, NewTask}
 
 abbrev pub notedUnlessQuiet : Notice → List Task → List ℕ → List ℕ
 notedUnlessQuiet Quiet ls b = b
@@ -27,3 +32,10 @@ abbrev pub restatedBytes : Allegiance → Allegiance → ℕ → List ℕ → Li
 restatedBytes before Clear n b = settledBytes n b
 restatedBytes Clear (Faulted f) n b = blockedBytes n b
 restatedBytes (Faulted g) (Faulted f) n b = b
+
+pub record HeaderKept (t : List ℕ) (h : Header) : Type 0 where
+  pub long : 8 ≤ length t
+  pub fault : faultFits (h .aca) ≡ true
+  pub was : Header
+  pub stands : recordAt 8 t 0 ≡ headerBytes was
+  pub policy : was .policy ≡ h .policy

@@ -1,9 +1,10 @@
 // A ruling carried out on the lent bytes.
 use records::bytes::put8;
-use records::header::header_bytes;
+use records::header::aca_number;
 use records::tasks::task_bytes;
 use rules::Allegiance;
 use rules::Change;
+use rules::Header;
 use rules::Joins;
 use rules::Notice;
 use rules::Sweep;
@@ -19,10 +20,12 @@ ghost use Prim.Native.Nat.{_+_, _≤_};
 ghost use lib.ListN.{length, drop};
 ghost use Rattle.rules.specs.Rulings.{newcomers, ruled, reportOf};
 ghost use Rattle.rules.specs.Well.{wellFormed};
+ghost use Rattle.laws.specs.Records.{putAt};
+ghost use Rattle.records.specs.Records.{headerBytes};
 ghost use Rattle.records.specs.Tables.{stateOf, tableBytes, reportBytes, goodTable};
 ghost use Rattle.steps.specs.Steps.{losers};
-ghost use Rattle.table.specs.Carrying.{notedUnlessQuiet, joinedBytes, restatedBytes};
-ghost use Rattle.table.specs.Changes.{ChangeFits, ChangedAs};
+ghost use Rattle.carry.specs.Carrying.{notedUnlessQuiet, joinedBytes, restatedBytes, HeaderKept};
+ghost use Rattle.carry.specs.Changes.{ChangeFits, ChangedAs};
 
 fn note_if(t: &mut [u8], n: usize, w: Sweep, k: Notice)
     requires { ⌜ (length (now t) ≡ 584) × (n ≤ 64) ⌝ }
@@ -66,6 +69,17 @@ fn restate(t: &mut [u8], n: usize, before: Allegiance, after: Allegiance)
     }
 }
 
+// The policy and the marks stand there already.
+fn put_header(t: &mut [u8], h: Header)
+    requires { ⌜ HeaderKept (now t) h ⌝ }
+    ensures { λ _. ⌜ now (t .exit) ≡ putAt 8 (now (t .entry)) 0 (headerBytes h) ⌝ }
+{
+    let aca = h.aca;
+    t[4] = h.count;
+    t[5] = aca_number(aca);
+    t[6] = h.run;
+}
+
 // How many tasks ended.
 pub fn change(t: &mut [u8], report: &mut [u8], n: usize, before: Allegiance, c: Change) -> usize
     requires { ⌜ ChangeFits (now t) (now report) n before c ⌝ }
@@ -81,6 +95,6 @@ pub fn change(t: &mut [u8], report: &mut [u8], n: usize, before: Allegiance, c: 
     let stay = close_up(t, n, w);
     let m = join(t, stay, j);
     restate(t, m, before, after);
-    put8(t, 0, header_bytes(h.with_count(m as u8)));
+    put_header(t, h.with_count(m as u8));
     ended
 }

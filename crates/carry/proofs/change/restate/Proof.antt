@@ -1,6 +1,6 @@
 use borrow.Author.Needs.{needs}
-use Rattle.table.proofs.carry.restate.Statement.{statement}
-use Rattle.table.proofs.carry.restate.Tie as tie
+use Rattle.carry.proofs.change.restate.Statement.{statement}
+use Rattle.carry.proofs.change.restate.Tie as tie
 
 pub restate-spec : {M : Type 1} → statement M
 restate-spec =
