@@ -1,11 +1,13 @@
 """Reads the part of antt that crates/cases/specs is written in: definitions by clauses over numbers, lists and records.
 
 What it does not know it refuses, so that no line of a case is passed over."""
+import operator
 import re
 
 TOKEN = re.compile(r"\s+|(0x[0-9A-Fa-f_]+|[0-9]+|[A-Za-z][A-Za-z0-9]*|∷|\+\+|\[\]|[()+*=;{}])")
 CITED = re.compile(r"use Rattle\.cases\.specs\.(\w+)\.\{(.*)\}")
 LEVELS = [("∷", "++"), ("+",), ("*",)]
+OPERATORS = {"∷": lambda first, rest: [first] + rest, "++": operator.add, "+": operator.add, "*": operator.mul}
 
 
 class Unread(Exception):
@@ -25,7 +27,7 @@ def tokens_of(text):
 
 
 class Parser:
-    """An expression is a number, a name or one of these pairs: ("[]",), (operator, left, right), ("apply", [parts]), ("record", fields)."""
+    """An expression is a number, a name, ("[]",), (operator, left, right), ("apply", parts) or ("record", fields)."""
 
     def __init__(self, tokens):
         self.tokens, self.at = tokens, 0
@@ -126,13 +128,24 @@ def matched(pattern, value):
     raise Unread(f"the pattern {pattern}")
 
 
-class Module:
-    """One file: its definitions, and what it cites of the others. `words` are the definitions that are not read but given."""
+class Library:
+    """The files of a folder. `words` are the definitions that are given and not read; `label` is shown the name of each value."""
 
-    def __init__(self, folder, name, words, label):
-        self.folder, self.words, self.label = folder, words, label
-        self.clauses, self.cited, self.known = {}, {}, {}
-        for line in lines_of((folder / f"{name}.antt").read_text(encoding="utf-8")):
+    def __init__(self, folder, words, label):
+        self.folder, self.words, self.label, self.modules = folder, words, label, {}
+
+    def value(self, module, name):
+        if module not in self.modules:
+            self.modules[module] = Module(self, (self.folder / f"{module}.antt").read_text(encoding="utf-8"))
+        return self.modules[module].value(name)
+
+
+class Module:
+    """One file: its definitions, and what it cites of the others."""
+
+    def __init__(self, library, text):
+        self.library, self.clauses, self.cited, self.known = library, {}, {}, {}
+        for line in lines_of(text):
             self.read(line)
 
     def read(self, line):
@@ -151,12 +164,12 @@ class Module:
 
     def found(self, name):
         if name in self.clauses:
-            takes_none = not self.clauses[name][0][0]
-            return self.label(name, self.called(name, [])) if takes_none else lambda *given: self.called(name, given)
-        if name in self.words:
-            return self.words[name]
+            takes_some = self.clauses[name][0][0]
+            return (lambda *given: self.called(name, given)) if takes_some else self.library.label(name, self.called(name, []))
+        if name in self.library.words:
+            return self.library.words[name]
         if name in self.cited:
-            return Module(self.folder, self.cited[name], self.words, self.label).value(name)
+            return self.library.value(self.cited[name], name)
         raise Unread(f"the name {name}")
 
     def called(self, name, given):
@@ -174,9 +187,8 @@ class Module:
         if term == ("[]",):
             return []
         if term[0] == "record":
-            return self.words["record"](**{name: self.evaluated(part, bound) for name, part in term[1].items()})
+            return self.library.words["record"](**{name: self.evaluated(part, bound) for name, part in term[1].items()})
         if term[0] == "apply":
             function, *given = [self.evaluated(part, bound) for part in term[1]]
             return function(*given)
-        left, right = self.evaluated(term[1], bound), self.evaluated(term[2], bound)
-        return {"∷": lambda: [left] + right, "++": lambda: left + right, "+": lambda: left + right, "*": lambda: left * right}[term[0]]()
+        return OPERATORS[term[0]](self.evaluated(term[1], bound), self.evaluated(term[2], bound))

@@ -1,8 +1,7 @@
 // A buffer as hexdump prints it: a row for each 8 bytes, and one row `*` for a run of rows equal to the one before, so that nothing is left out.
-use crate::text::put;
-use crate::text::put_bytes;
-use crate::text::put_decimal;
-use crate::text::put_hexes;
+use crate::print::print;
+use crate::print::print_field;
+use crate::print::print_hexes;
 
 fn same(a: &[u8], b: &[u8]) -> bool {
     if a.len() != b.len() {
@@ -32,33 +31,27 @@ fn repeats(bytes: &[u8], from: usize) -> bool {
     from >= 8 && same(row(bytes, from), row(bytes, from - 8))
 }
 
-fn put_row(out: &mut [u8], at: usize, bytes: &[u8], from: usize) -> usize {
+fn print_row(bytes: &[u8], from: usize) {
     if !repeats(bytes, from) {
-        let indented = put(out, at, b' ');
-        let end = put_hexes(out, indented, row(bytes, from));
-        return put(out, end, b'\n');
+        print(b" ");
+        print_hexes(row(bytes, from));
+        print(b"\n");
+    } else if from < 8 || !repeats(bytes, from - 8) {
+        print(b"  *\n");
     }
-    if from >= 8 && repeats(bytes, from - 8) {
-        return at;
-    }
-    put_bytes(out, at, b"  *\n")
 }
 
-fn put_rows(out: &mut [u8], at: usize, bytes: &[u8]) -> usize {
-    let mut end = at;
+fn print_rows(bytes: &[u8]) {
     let mut from = 0;
     while from < bytes.len() {
-        end = put_row(out, end, bytes, from);
+        print_row(bytes, from);
         from += 8;
     }
-    end
 }
 
 // The rows do not show how long a last run is; the count of bytes does.
-pub fn put_dump(out: &mut [u8], at: usize, title: &[u8], bytes: &[u8]) -> usize {
-    let comma = put_bytes(out, at, title);
-    let count = put_bytes(out, comma, b", ");
-    let unit = put_decimal(out, count, bytes.len() as u64);
-    let rows = put_bytes(out, unit, b" bytes\n");
-    put_rows(out, rows, bytes)
+pub fn print_dump(title: &[u8], bytes: &[u8]) {
+    print_field(title, bytes.len() as u64);
+    print(b" bytes\n");
+    print_rows(bytes);
 }

@@ -1,5 +1,5 @@
 // Frames of the input: a head of 8 bytes (kind; number; payload length, two bytes, big-endian; four zeros) and a payload.
-use crate::text::within;
+use crate::buffers::within;
 use libc::STDIN_FILENO;
 ghost use Prim.Native.Nat.{_<_};
 

@@ -1,13 +1,12 @@
 // What each frame does to the two lent buffers, and what it writes.
+use crate::buffers::copy;
+use crate::buffers::within;
 use crate::frames::Frame;
 use crate::frames::read_payload;
 use crate::operations::apply;
 use crate::operations::name;
 use crate::operations::start;
-use crate::text::put;
-use crate::text::put_bytes;
-use crate::text::within;
-use libc::STDOUT_FILENO;
+use crate::print::print;
 
 // How many bytes of the table and of the report buffer are lent.
 pub struct Lent {
@@ -21,37 +20,24 @@ pub enum Next {
 }
 
 fn stop_at_bad_frame() -> Next {
-    io::write_all(STDOUT_FILENO, b"bad frame\n");
-    Next::Stop
-}
-
-fn write_and_go(out: &[u8], end: usize, lent: Lent) -> Next {
-    let n = within(end, out);
-    if io::write_all(STDOUT_FILENO, &out[..n]) {
-        return Next::Go(lent);
-    }
+    print(b"bad frame\n");
     Next::Stop
 }
 
 // Nothing is lent when a case begins.
 fn begin_case(length: usize) -> Next {
-    let mut payload = [0u8; 1024];
-    if !read_payload(&mut payload, length) {
+    let mut name = [0u8; 1024];
+    if !read_payload(&mut name, length) {
         return stop_at_bad_frame();
     }
-    let mut out = [0u8; 2048];
-    let n = within(length, &payload);
-    let title = put_bytes(&mut out, 0, b"case ");
-    let feed = put_bytes(&mut out, title, &payload[..n]);
-    let end = put(&mut out, feed, b'\n');
-    write_and_go(
-        &out,
-        end,
-        Lent {
-            table: 0,
-            report: 0,
-        },
-    )
+    let n = within(length, &name);
+    print(b"case ");
+    print(&name[..n]);
+    print(b"\n");
+    Next::Go(Lent {
+        table: 0,
+        report: 0,
+    })
 }
 
 fn lend_table(table: &mut [u8], length: usize, lent: Lent) -> Next {
@@ -75,33 +61,34 @@ fn lend_report(report: &mut [u8], length: usize, lent: Lent) -> Next {
 }
 
 fn start_table(table: &mut [u8], policy: u8, lent: Lent) -> Next {
-    let mut out = [0u8; 4096];
     let n = within(lent.table, table);
-    let end = start(&mut table[..n], policy, &mut out);
-    write_and_go(&out, end, lent)
+    start(&mut table[..n], policy);
+    Next::Go(lent)
 }
 
 fn name_turn(table: &[u8], lent: Lent) -> Next {
-    let mut out = [0u8; 256];
     let n = within(lent.table, table);
-    let end = name(&table[..n], &mut out);
-    write_and_go(&out, end, lent)
+    name(&table[..n]);
+    Next::Go(lent)
 }
 
 // The event is lent a copy, so that the next one finds the report buffer as it was when the case began.
+fn lend_all(table: &mut [u8], report: &[u8], event: &[u8], lent: Lent) {
+    let mut anew = [0u8; 1024];
+    copy(&mut anew, report);
+    let t = within(lent.table, table);
+    let r = within(lent.report, &anew);
+    apply(&mut table[..t], &mut anew[..r], event);
+}
+
 fn apply_event(table: &mut [u8], report: &[u8], length: usize, lent: Lent) -> Next {
     let mut event = [0u8; 1024];
     if !read_payload(&mut event, length) {
         return stop_at_bad_frame();
     }
-    let mut anew = [0u8; 1024];
-    put_bytes(&mut anew, 0, report);
-    let mut out = [0u8; 16384];
-    let t = within(lent.table, table);
-    let r = within(lent.report, &anew);
-    let e = within(length, &event);
-    let end = apply(&mut table[..t], &mut anew[..r], &event[..e], &mut out);
-    write_and_go(&out, end, lent)
+    let n = within(length, &event);
+    lend_all(table, report, &event[..n], lent);
+    Next::Go(lent)
 }
 
 pub fn play_frame(table: &mut [u8], report: &mut [u8], frame: Frame, lent: Lent) -> Next {

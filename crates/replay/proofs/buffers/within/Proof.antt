@@ -1,8 +1,8 @@
 use native.Mathlib.Omega.{arith}
 use lib.ListN.{length}
 use Rattle.io.proofs.Counting.{counts}
-use Rattle.replay.proofs.text.within.Statement.{statement}
-use Rattle.replay.proofs.text.within.Tie as tie
+use Rattle.replay.proofs.buffers.within.Statement.{statement}
+use Rattle.replay.proofs.buffers.within.Tie as tie
 
 pub within-spec : {M : Type 1} → statement M
 within-spec =

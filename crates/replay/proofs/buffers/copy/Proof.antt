@@ -2,17 +2,17 @@ use borrow.Author.Needs.{needs}
 use Prim.Native.Nat.{_≤_, _-_}
 use mathlib.Core.Path.{_≡_}
 use lib.ListN.{length}
-use Rattle.replay.proofs.text.put_bytes.Statement.{statement}
-use Rattle.replay.proofs.text.put_bytes.Tie as tie
+use Rattle.replay.proofs.buffers.copy.Statement.{statement}
+use Rattle.replay.proofs.buffers.copy.Tie as tie
 
 abbrev Inv-loop : tie.InvT-loop
-Inv-loop out₀ at bytes end₀ i₀ i-end out end i = (length out ≡ length out₀) × (i ≤ i-end)
+Inv-loop to₀ from i₀ i-end to i = (length to ≡ length to₀) × (i ≤ i-end)
 
 abbrev μ-loop : tie.MeasureT-loop
-μ-loop out₀ at bytes end₀ i₀ i-end out end i = i-end - i
+μ-loop to₀ from i₀ i-end to i = i-end - i
 
-pub put-bytes-spec : {M : Type 1} → statement M
-put-bytes-spec =
+pub copy-spec : {M : Type 1} → statement M
+copy-spec =
     tie.close
     (tie.spec
     Inv-loop
