@@ -3,18 +3,6 @@ use crate::print::print;
 use crate::print::print_field;
 use crate::print::print_hexes;
 
-fn same(a: &[u8], b: &[u8]) -> bool {
-    if a.len() != b.len() {
-        return false;
-    }
-    for i in 0..a.len() {
-        if a[i] != b[i] {
-            return false;
-        }
-    }
-    true
-}
-
 // The row that starts at `from`: 8 bytes, or the last ones.
 fn row(bytes: &[u8], from: usize) -> &[u8] {
     if from >= bytes.len() {
@@ -28,7 +16,7 @@ fn row(bytes: &[u8], from: usize) -> &[u8] {
 }
 
 fn repeats(bytes: &[u8], from: usize) -> bool {
-    from >= 8 && same(row(bytes, from), row(bytes, from - 8))
+    from >= 8 && check::same(row(bytes, from), row(bytes, from - 8))
 }
 
 fn print_row(bytes: &[u8], from: usize) {
