@@ -1,0 +1,104 @@
+/* Entry of a command: the paper's six checks in their order. */
+#include "parts.h"
+
+static struct dedakhumi_answer entry_status(uint8_t *report, uint8_t status)
+{
+	memset(report, 0, DEDAKHUMI_REPORT_LENGTH);
+	return (struct dedakhumi_answer){ .answer = ANSWER_ENDED_AT_ENTRY, .status = status };
+}
+
+static struct dedakhumi_answer entry_sense(uint8_t *report, uint8_t key, uint8_t code, uint8_t qualifier)
+{
+	struct dedakhumi_answer answer = entry_status(report, STATUS_CHECK_CONDITION);
+
+	answer.key = key;
+	answer.code = code;
+	answer.qualifier = qualifier;
+	return answer;
+}
+
+/* Check 1 */
+static struct dedakhumi_answer overlapped_command(uint8_t *table, uint8_t *report, uint8_t nexus)
+{
+	struct ending ending = { .named = NO_TASK, .scope = ENDS_NEXUS, .causing_nexus = nexus };
+	struct dedakhumi_answer answer = {
+		.answer = ANSWER_ENDED_AT_ENTRY, .status = STATUS_CHECK_CONDITION, .key = 0x0B, .code = 0x4E
+	};
+
+	answer.ended = second_end_tasks(table, report, &ending);
+	second_enable_eligible(table);
+	return answer;
+}
+
+/* Check 2: the status that an ACA in effect gives, or GOOD where the command goes on. */
+static uint8_t aca_status(const uint8_t *table, const uint8_t *event)
+{
+	if (table[HEADER_ACA] == 0)
+		return STATUS_GOOD;
+	if (table[HEADER_ACA] != event[EVENT_NEXUS] + 1)
+		return event[EVENT_SECOND] & CONTROL_NACA ? STATUS_ACA_ACTIVE : STATUS_BUSY;
+	if (event[EVENT_FIRST] == ACA && second_aca_task(table) == NO_TASK)
+		return STATUS_GOOD;
+	return STATUS_ACA_ACTIVE;
+}
+
+/* Check 3: the lowest bit set has the highest rank. */
+static struct dedakhumi_answer unit_attention(uint8_t *pending, uint8_t *report)
+{
+	uint8_t highest = *pending & (uint8_t)-*pending;
+
+	*pending &= (uint8_t)~highest;
+	switch (highest) {
+	case PENDING_POWER_ON:
+		return entry_sense(report, 0x06, 0x29, 0x00);
+	case PENDING_HARD_RESET:
+		return entry_sense(report, 0x06, 0x29, 0x02);
+	case PENDING_LOGICAL_UNIT_RESET:
+		return entry_sense(report, 0x06, 0x29, 0x03);
+	case PENDING_NEXUS_LOSS:
+		return entry_sense(report, 0x06, 0x29, 0x07);
+	default:
+		return entry_sense(report, 0x06, 0x2F, 0x00);
+	}
+}
+
+/* Check 4 */
+static bool good_attribute(const uint8_t *table, uint8_t attribute)
+{
+	return attribute <= ORDERED || (attribute == ACA && table[HEADER_ACA] != 0);
+}
+
+/* Check 6: past check 2 in an ACA comes only the ACA task, which is enabled there. */
+static struct dedakhumi_answer accept(uint8_t *table, uint8_t *report, const uint8_t *event)
+{
+	uint8_t *task = table + task_offset(table[HEADER_COUNT]);
+
+	task[TASK_NEXUS] = event[EVENT_NEXUS];
+	task[TASK_ATTRIBUTE] = event[EVENT_FIRST];
+	task[TASK_STATE] = ENABLED;
+	task[TASK_CONTROL] = event[EVENT_SECOND] & CONTROL_NACA;
+	memcpy(task + TASK_TAG, event + EVENT_TAG, 2);
+	table[HEADER_COUNT]++;
+	second_enable_eligible(table);
+	memset(report, 0, DEDAKHUMI_REPORT_LENGTH);
+	return done(0);
+}
+
+struct dedakhumi_answer second_command(uint8_t *table, uint8_t *report, const uint8_t *event)
+{
+	uint8_t *pending = table + nexus_offset(event[EVENT_NEXUS]) + NEXUS_PENDING;
+	uint8_t status;
+
+	if (second_find(table, event) != NO_TASK)
+		return overlapped_command(table, report, event[EVENT_NEXUS]);
+	status = aca_status(table, event);
+	if (status != STATUS_GOOD)
+		return entry_status(report, status);
+	if (*pending != 0 && !(event[EVENT_SECOND] & COMMAND_EXEMPT))
+		return unit_attention(pending, report);
+	if (!good_attribute(table, event[EVENT_FIRST]))
+		return entry_sense(report, 0x05, 0x49, 0x00);
+	if (table[HEADER_COUNT] == TASK_LIMIT)
+		return entry_status(report, STATUS_TASK_SET_FULL);
+	return accept(table, report, event);
+}

@@ -1,0 +1,89 @@
+/* Ending tasks in place, and the states of those that stay. */
+#include "parts.h"
+
+static bool ends(const struct ending *ending, const uint8_t *task, size_t place)
+{
+	if (place == ending->named || ending->scope == ENDS_ALL)
+		return true;
+	return ending->scope == ENDS_NEXUS && task[TASK_NEXUS] == ending->causing_nexus;
+}
+
+/* "Aborted tasks end with FFh, with one exception" */
+static uint8_t ending_status(uint8_t *table, const struct ending *ending, const uint8_t *task, size_t place)
+{
+	if (place == ending->named)
+		return ending->named_status;
+	if (!ending->tells_others || task[TASK_NEXUS] == ending->causing_nexus)
+		return STATUS_NONE_SENT;
+	if (table[HEADER_POLICY] & POLICY_TAS)
+		return STATUS_TASK_ABORTED;
+	table[nexus_offset(task[TASK_NEXUS]) + NEXUS_PENDING] |= PENDING_COMMANDS_CLEARED;
+	return STATUS_NONE_SENT;
+}
+
+static void write_ended(uint8_t *record, const uint8_t *task, uint8_t status)
+{
+	memcpy(record, ENDED_MARK, MARK_LENGTH);
+	record[ENDED_NEXUS] = task[TASK_NEXUS];
+	record[ENDED_STATUS] = status;
+	record[ENDED_STATUS + 1] = 0;
+	record[ENDED_STATUS + 2] = 0;
+	memcpy(record + ENDED_TAG, task + TASK_TAG, 2);
+}
+
+static void free_records(uint8_t *table, size_t kept)
+{
+	for (size_t place = kept; place < table[HEADER_COUNT]; place++)
+		memcpy(table + task_offset(place), UNUSED_TASK, RECORD_LENGTH);
+	table[HEADER_COUNT] = (uint8_t)kept;
+}
+
+uint8_t second_end_tasks(uint8_t *table, uint8_t *report, const struct ending *ending)
+{
+	size_t kept = 0;
+	size_t ended = 0;
+
+	for (size_t place = 0; place < table[HEADER_COUNT]; place++) {
+		const uint8_t *task = table + task_offset(place);
+
+		if (ends(ending, task, place)) {
+			write_ended(report + ended * RECORD_LENGTH, task, ending_status(table, ending, task, place));
+			ended++;
+		} else {
+			memmove(table + task_offset(kept), task, RECORD_LENGTH);
+			kept++;
+		}
+	}
+	free_records(table, kept);
+	memset(report + ended * RECORD_LENGTH, 0, DEDAKHUMI_REPORT_LENGTH - ended * RECORD_LENGTH);
+	return (uint8_t)ended;
+}
+
+/* "After any event that ends without ACA, every eligible task is enabled." */
+void second_enable_eligible(uint8_t *table)
+{
+	size_t count = table[HEADER_COUNT];
+	bool barrier = false;
+
+	if (table[HEADER_ACA] != 0)
+		return;
+	for (size_t place = 0; place < count; place++) {
+		uint8_t *task = table + task_offset(place);
+
+		task[TASK_STATE] = is_eligible(task[TASK_ATTRIBUTE], place, barrier) ? ENABLED : DORMANT;
+		barrier = barrier || is_barrier(task[TASK_ATTRIBUTE]);
+	}
+}
+
+/* "When ACA begins, enabled tasks become blocked; dormant ones stay so" */
+void second_block_enabled(uint8_t *table)
+{
+	size_t count = table[HEADER_COUNT];
+
+	for (size_t place = 0; place < count; place++) {
+		uint8_t *task = table + task_offset(place);
+
+		if (task[TASK_STATE] == ENABLED)
+			task[TASK_STATE] = BLOCKED;
+	}
+}
