@@ -1,0 +1,25 @@
+/* Single events, more or less random, that the streams are made of. */
+#ifndef COMPARE_EVENTS_H
+#define COMPARE_EVENTS_H
+
+#include "trial.h"
+
+/* Which nexuses and tags an event may have: those below the two numbers. */
+struct range {
+	unsigned nexuses;
+	unsigned tags;
+};
+
+void event_write(struct step *step, uint8_t kind, uint8_t nexus, uint8_t first, uint8_t second, uint16_t tag);
+void event_command(uint64_t *random, struct step *step, struct range range, uint8_t attribute, unsigned exempt_percent);
+/* Of a task in the table as a rule, else of any in the range. */
+void event_completion(uint64_t *random, const uint8_t *table, struct step *step, struct range range, uint8_t status);
+void event_abort_task(uint64_t *random, const uint8_t *table, struct step *step, struct range range);
+void event_management(uint64_t *random, struct step *step, struct range range);
+void event_condition(uint64_t *random, struct step *step, struct range range);
+/* Any of the four kinds. */
+void event_any(uint64_t *random, const uint8_t *table, struct step *step, struct range range);
+/* GOOD for the given percentage, else CHECK CONDITION. */
+uint8_t random_status(uint64_t *random, unsigned good_percent);
+
+#endif

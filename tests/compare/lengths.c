@@ -1,0 +1,89 @@
+/* Starts over every policy, and buffers of wrong lengths. */
+#include "events.h"
+#include "random.h"
+#include "session.h"
+#include "tables.h"
+
+/* 840 and 768 are the right lengths again in their low byte. */
+static const size_t table_lengths[] = { 0, 1, 7, 8, 72, 576, 583, 584, 585, 586, 591, 592, 840, 1000 };
+static const size_t report_lengths[] = { 0, 1, 8, 256, 504, 511, 512, 513, 520, 768, 1000 };
+
+enum {
+	TABLE_LENGTHS = sizeof table_lengths / sizeof *table_lengths,
+	REPORT_LENGTHS = sizeof report_lengths / sizeof *report_lengths,
+	LENGTH_ROUNDS = 12,
+	START_ROUNDS = 2
+};
+
+/* What lies past a whole table looks like more of it. */
+static void lend_any_length(struct session *session, struct trial *trial, size_t length)
+{
+	for (size_t offset = DEDAKHUMI_TABLE_LENGTH; offset < ROOM_LENGTH; offset += RECORD_LENGTH)
+		memcpy(trial->table + offset, UNUSED_TASK, RECORD_LENGTH);
+	table_random(&session->random, trial->table);
+	trial->table_length = length;
+}
+
+static void start_every_policy(struct session *session, size_t length)
+{
+	for (unsigned policy = 0; policy < 256; policy++) {
+		struct trial *trial = session_new_trial(session);
+
+		lend_any_length(session, trial, length);
+		if (random_percent(&session->random, 50))
+			random_bytes(&session->random, trial->table, ROOM_LENGTH);
+		trial->starts = true;
+		trial->policy = (uint8_t)policy;
+		session_open(session);
+	}
+}
+
+void compare_starts(struct session *session)
+{
+	unsigned long rounds = session_times(session, START_ROUNDS);
+
+	session_begin_part(session, "starts");
+	for (unsigned long round = 0; round < rounds; round++)
+		for (size_t number = 0; number < TABLE_LENGTHS; number++)
+			start_every_policy(session, table_lengths[number]);
+}
+
+/* Half of the events are good, so that only the lengths speak against them. */
+static void apply_every_length(struct session *session)
+{
+	const struct range range = { NEXUS_COUNT + 2, 4 };
+
+	for (unsigned length = 0; length <= EVENT_ROOM; length++) {
+		struct step *step = session_new_step(session);
+
+		event_any(&session->random, session->trial.table, step, range);
+		if (random_percent(&session->random, 25))
+			step->event[random_below(&session->random, DEDAKHUMI_EVENT_LENGTH)] ^= 0x10;
+		step->event_length = (uint8_t)length;
+		session_apply(session);
+	}
+}
+
+static void lend_every_report_length(struct session *session, size_t table_length)
+{
+	for (size_t number = 0; number < REPORT_LENGTHS; number++) {
+		struct trial *trial = session_new_trial(session);
+
+		lend_any_length(session, trial, table_length);
+		if (random_percent(&session->random, 10))
+			trial->table[random_below(&session->random, DEDAKHUMI_TABLE_LENGTH)] ^= 0x20;
+		trial->report_length = report_lengths[number];
+		session_open(session);
+		apply_every_length(session);
+	}
+}
+
+void compare_lengths(struct session *session)
+{
+	unsigned long rounds = session_times(session, LENGTH_ROUNDS);
+
+	session_begin_part(session, "lengths");
+	for (unsigned long round = 0; round < rounds; round++)
+		for (size_t number = 0; number < TABLE_LENGTHS; number++)
+			lend_every_report_length(session, table_lengths[number]);
+}

@@ -1,0 +1,86 @@
+#include "show.h"
+
+#include <stdio.h>
+
+static void show_bytes(const uint8_t *bytes, size_t length)
+{
+	for (size_t byte = 0; byte < length; byte++)
+		printf(" %02X", bytes[byte]);
+	printf("\n");
+}
+
+/* How many records from this one on have the same bytes. */
+static size_t same_records(const uint8_t *bytes, size_t length)
+{
+	size_t same = 1;
+
+	while ((same + 1) * RECORD_LENGTH <= length && memcmp(bytes, bytes + same * RECORD_LENGTH, RECORD_LENGTH) == 0)
+		same++;
+	return same;
+}
+
+static void show_table(const uint8_t *table, size_t length)
+{
+	size_t from = 0;
+
+	while (from < length) {
+		size_t piece = length - from < RECORD_LENGTH ? length - from : RECORD_LENGTH;
+		size_t same = same_records(table + from, length - from);
+
+		printf("  %3zu, %2zu times:", from, same);
+		show_bytes(table + from, piece);
+		from += same * RECORD_LENGTH;
+	}
+}
+
+static void show_step(size_t number, const struct step *step)
+{
+	const char *before = step->fill == FILL_ZEROS ? "zeros" : step->fill == FILL_ONES ? "FFh" : "random bytes";
+
+	printf("event %zu (%d bytes, report held %s):", number + 1, step->event_length, before);
+	show_bytes(step->event, step->event_length);
+}
+
+void show_trial(const struct trial *trial)
+{
+	if (!trial->starts || trial->table_length != DEDAKHUMI_TABLE_LENGTH) {
+		printf("table of %zu bytes lent:\n", trial->table_length);
+		show_table(trial->table, trial->table_length);
+	}
+	if (trial->starts)
+		printf("start with policy %02Xh over %zu bytes\n", trial->policy, trial->table_length);
+	if (trial->report_length != DEDAKHUMI_REPORT_LENGTH)
+		printf("report of %zu bytes\n", trial->report_length);
+	for (size_t step = 0; step < trial->step_count; step++)
+		show_step(step, &trial->steps[step]);
+}
+
+static void show_side(const char *side, const struct dedakhumi_answer *answer, const struct dedakhumi_turn *turn, bool applied)
+{
+	printf("%s:", side);
+	if (applied)
+		printf(" answer %d, status %02Xh, sense %Xh/%02Xh/%02Xh, ended %d;", answer->answer, answer->status,
+			answer->key, answer->code, answer->qualifier, answer->ended);
+	printf(" naming %d, found %d, nexus %d, tag %d\n", turn->answer, turn->found, turn->nexus, turn->tag);
+}
+
+static void show_place(const struct difference *difference)
+{
+	printf("first that differs: %s", difference->place);
+	if (difference->byte != -1)
+		printf(" %ld (record %ld, byte %ld)", difference->byte, difference->byte / RECORD_LENGTH,
+			difference->byte % RECORD_LENGTH);
+	printf(": archive %02Xh, second %02Xh\n", difference->archive, difference->second);
+}
+
+void show_difference(const struct run *run, const struct trial *trial)
+{
+	const struct difference *difference = &run->difference;
+	bool applied = difference->step != NO_STEP;
+
+	if (trial->starts)
+		printf("archive: start %d; second: start %d\n", difference->starts[ARCHIVE], difference->starts[SECOND]);
+	show_side("archive", &difference->answers[ARCHIVE], &difference->turns[ARCHIVE], applied);
+	show_side("second ", &difference->answers[SECOND], &difference->turns[SECOND], applied);
+	show_place(difference);
+}
