@@ -4,7 +4,7 @@
 #include "streams.h"
 #include "tables.h"
 
-enum { BASES = 12, RANDOM_DAMAGES = 20000, RECORD_DAMAGES = 20000, REACH_LENGTH = 200, WAYS = 13 };
+enum { BASES = 40, RANDOM_DAMAGES = 20000, RECORD_DAMAGES = 20000, REACH_LENGTH = 200, WAYS = 13 };
 
 /* Ways 0 to 7 flip a bit. */
 static uint8_t damaged_byte(uint64_t *random, uint8_t byte, unsigned way)

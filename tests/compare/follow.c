@@ -4,7 +4,7 @@
 #include "streams.h"
 #include "tables.h"
 
-enum { STREAM_LENGTH = 256, STREAMS_FRESH = 80, STREAMS_LENT = 80 };
+enum { STREAM_LENGTH = 256, STREAMS_FRESH = 200, STREAMS_LENT = 200 };
 
 static void follow(struct session *session, const struct stream *stream)
 {

@@ -8,6 +8,8 @@
 
 enum { PAGE_LENGTH = 4096, OUTSIDE = 0xA5 };
 
+static const char *const refused_by_both = "naming: answer to a table built well formed";
+
 /* The page after a room can't be touched, so a read or write past a lent buffer stops the program. */
 static uint8_t *make_room(void)
 {
@@ -160,9 +162,14 @@ bool run_open(struct run *run, const struct trial *trial)
 	if (!same_turn(run) || !same_tables(run, trial))
 		return false;
 	if (trial->well_formed && run->difference.turns[ARCHIVE].answer != ANSWER_DONE)
-		return part(run, "naming: answer to a table built well formed", -1, run->difference.turns[ARCHIVE].answer,
+		return part(run, refused_by_both, -1, run->difference.turns[ARCHIVE].answer,
 			run->difference.turns[SECOND].answer);
 	return true;
+}
+
+bool run_refused_by_both(const struct run *run)
+{
+	return run->difference.place == refused_by_both;
 }
 
 static void fill_report(uint8_t *room, const struct trial *trial, uint8_t fill)

@@ -26,6 +26,8 @@ void run_prepare(struct run *run);
 bool run_open(struct run *run, const struct trial *trial);
 bool run_step(struct run *run, const struct trial *trial, size_t step);
 bool run_whole(struct run *run, const struct trial *trial);
+/* Not a parting of the sides: both refuse a table that the comparison built well formed. */
+bool run_refused_by_both(const struct run *run);
 /* The table as it stands on the archive's side. */
 const uint8_t *run_table(const struct run *run, const struct trial *trial);
 

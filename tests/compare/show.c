@@ -6,7 +6,6 @@ static void show_bytes(const uint8_t *bytes, size_t length)
 {
 	for (size_t byte = 0; byte < length; byte++)
 		printf(" %02X", bytes[byte]);
-	printf("\n");
 }
 
 /* How many records from this one on have the same bytes. */
@@ -27,8 +26,11 @@ static void show_table(const uint8_t *table, size_t length)
 		size_t piece = length - from < RECORD_LENGTH ? length - from : RECORD_LENGTH;
 		size_t same = same_records(table + from, length - from);
 
-		printf("  %3zu, %2zu times:", from, same);
+		printf("  %3zu:", from);
 		show_bytes(table + from, piece);
+		if (same > 1)
+			printf(", %zu times", same);
+		printf("\n");
 		from += same * RECORD_LENGTH;
 	}
 }
@@ -39,6 +41,7 @@ static void show_step(size_t number, const struct step *step)
 
 	printf("event %zu (%d bytes, report held %s):", number + 1, step->event_length, before);
 	show_bytes(step->event, step->event_length);
+	printf("\n");
 }
 
 void show_trial(const struct trial *trial)

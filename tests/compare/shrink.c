@@ -1,6 +1,8 @@
 #include "shrink.h"
 #include "tables.h"
 
+enum { FEW_EVENTS = 10 };
+
 /* Puts the smaller trial in the place of the other if the sides still differ on it. */
 static bool take_if_differs(struct run *run, struct trial *trial, const struct trial *smaller)
 {
@@ -94,6 +96,18 @@ static void exempt_commands(struct run *run, struct trial *trial)
 	take_if_differs(run, trial, &smaller);
 }
 
+/* A start that was refused, or that doesn't count. */
+static void drop_start(struct run *run, struct trial *trial)
+{
+	static struct trial smaller;
+
+	smaller = *trial;
+	smaller.starts = false;
+	smaller.policy = 0;
+	if (trial->starts)
+		take_if_differs(run, trial, &smaller);
+}
+
 /* A fresh table is easier to read than a lent one. */
 static void open_fresh(struct run *run, struct trial *trial)
 {
@@ -101,7 +115,6 @@ static void open_fresh(struct run *run, struct trial *trial)
 
 	smaller = *trial;
 	smaller.starts = true;
-	smaller.well_formed = false;
 	smaller.policy = trial->table[HEADER_POLICY];
 	if (!trial->starts && trial->table_length == DEDAKHUMI_TABLE_LENGTH)
 		take_if_differs(run, trial, &smaller);
@@ -136,33 +149,94 @@ static bool delete_tasks(struct run *run, struct trial *trial)
 	return shrunk;
 }
 
-/* Policy, pending bits, run, and the tasks' tags. A record that was damaged keeps its damage if it counts. */
+static bool restore_unused(struct run *run, struct trial *trial, size_t place)
+{
+	static struct trial smaller;
+
+	smaller = *trial;
+	memcpy(smaller.table + task_offset(place), UNUSED_TASK, RECORD_LENGTH);
+	if (memcmp(smaller.table, trial->table, DEDAKHUMI_TABLE_LENGTH) == 0)
+		return false;
+	return take_if_differs(run, trial, &smaller);
+}
+
+/* Damage in a record that doesn't count goes. */
+static bool restore_all_unused(struct run *run, struct trial *trial)
+{
+	bool shrunk = false;
+
+	for (size_t place = trial->table[HEADER_COUNT]; place < TASK_LIMIT; place++)
+		shrunk |= restore_unused(run, trial, place);
+	return shrunk;
+}
+
+/* Marks, the count and the nexus records' numbers stay: zeros there would only hide what is wrong. */
+static bool is_field(size_t byte)
+{
+	if (byte < TASK_RECORDS)
+		return byte % RECORD_LENGTH >= NEXUS_PENDING && byte != HEADER_COUNT;
+	return byte % RECORD_LENGTH >= TASK_NEXUS;
+}
+
 static bool simplify_table(struct run *run, struct trial *trial)
 {
-	bool shrunk = simplify_byte(run, trial, offsetof(struct trial, policy));
+	bool shrunk;
 
-	if (trial->starts || trial->table_length != DEDAKHUMI_TABLE_LENGTH)
-		return shrunk;
-	for (size_t byte = HEADER_POLICY; byte < DEDAKHUMI_TABLE_LENGTH; byte++)
-		if (byte != HEADER_COUNT)
+	if (trial->starts)
+		return simplify_byte(run, trial, offsetof(struct trial, policy));
+	if (trial->table_length != DEDAKHUMI_TABLE_LENGTH)
+		return false;
+	shrunk = restore_all_unused(run, trial);
+	for (size_t byte = 0; byte < DEDAKHUMI_TABLE_LENGTH; byte++)
+		if (is_field(byte))
 			shrunk |= simplify_byte(run, trial, offsetof(struct trial, table) + byte);
 	return shrunk;
 }
 
-void shrink(struct run *run, struct trial *trial)
+static void shrink_as_it_is(struct run *run, struct trial *trial)
 {
-	static struct trial first;
 	bool shrunk = true;
 
-	first = *trial;
-	take_if_differs(run, trial, &first);
-	open_fresh(run, trial);
-	exempt_commands(run, trial);
 	while (shrunk) {
 		shrunk = delete_events(run, trial);
 		shrunk |= delete_tasks(run, trial);
 		shrunk |= simplify_table(run, trial);
 		shrunk |= simplify_steps(run, trial);
+	}
+}
+
+/* Where it takes many events to get there, the table before the last one is lent and that one is left. */
+static void lend_last_table(struct run *run, struct trial *trial)
+{
+	static struct trial smaller;
+
+	smaller = *trial;
+	smaller.step_count--;
+	run_whole(run, &smaller);
+	memcpy(smaller.table, run_table(run, trial), trial->table_length);
+	smaller.starts = false;
+	smaller.steps[0] = trial->steps[trial->step_count - 1];
+	smaller.step_count = 1;
+	take_if_differs(run, trial, &smaller);
+}
+
+void shrink(struct run *run, struct trial *trial)
+{
+	static struct trial first;
+
+	if (run_refused_by_both(run))
+		return;
+	/* What is tried below need not be well formed. */
+	trial->well_formed = false;
+	first = *trial;
+	take_if_differs(run, trial, &first);
+	drop_start(run, trial);
+	open_fresh(run, trial);
+	exempt_commands(run, trial);
+	shrink_as_it_is(run, trial);
+	if (trial->step_count > FEW_EVENTS) {
+		lend_last_table(run, trial);
+		shrink_as_it_is(run, trial);
 	}
 	/* The caller shows the difference of the smallest trial, not of the last one tried. */
 	run_whole(run, trial);
