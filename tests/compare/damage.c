@@ -4,7 +4,7 @@
 #include "streams.h"
 #include "tables.h"
 
-enum { BASES = 40, RANDOM_DAMAGES = 20000, RECORD_DAMAGES = 20000, REACH_LENGTH = 200, WAYS = 13 };
+enum { BASES = 40, HEADERS = 100, RANDOM_DAMAGES = 20000, RECORD_DAMAGES = 20000, REACH_LENGTH = 200, WAYS = 13 };
 
 /* Ways 0 to 7 flip a bit. */
 static uint8_t damaged_byte(uint64_t *random, uint8_t byte, unsigned way)
@@ -85,6 +85,19 @@ static void damage_every_byte(struct session *session)
 	base_table(session, base);
 	for (size_t byte = 0; byte < sizeof base; byte++)
 		damage_byte(session, base, byte);
+}
+
+/* Every value of every byte of the header, under which the tasks are good or not. */
+static void damage_header(struct session *session)
+{
+	uint8_t base[DEDAKHUMI_TABLE_LENGTH], table[DEDAKHUMI_TABLE_LENGTH];
+
+	base_table(session, base);
+	for (unsigned change = 0; change < RECORD_LENGTH * 256; change++) {
+		memcpy(table, base, sizeof table);
+		table[change / 256] = (uint8_t)change;
+		compare_table(session, table);
+	}
 }
 
 static size_t random_record(uint64_t *random)
@@ -188,6 +201,9 @@ void compare_damaged_tables(struct session *session)
 	session_begin_part(session, "tables damaged in whole records");
 	for (unsigned long times = session_times(session, RECORD_DAMAGES); times > 0; times--)
 		damage_some_records(session);
+	session_begin_part(session, "tables damaged in the header");
+	for (unsigned long times = session_times(session, HEADERS); times > 0; times--)
+		damage_header(session);
 	session_begin_part(session, "tables damaged in every byte");
 	for (unsigned long times = session_times(session, BASES); times > 0; times--)
 		damage_every_byte(session);

@@ -42,6 +42,7 @@ int main(int count, char **arguments)
 	run_prepare(&session.run);
 	compare_starts(&session);
 	compare_lengths(&session);
+	compare_every_event(&session);
 	compare_small_tables(&session);
 	compare_streams(&session);
 	compare_damaged_tables(&session);
