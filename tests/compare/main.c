@@ -1,6 +1,7 @@
 /*
  * Compares the proved archive with the second implementation: build/compare [FACTOR [SEED]].
- * FACTOR multiplies the length of the run and may be below 1.
+ * It is linked from every C file of tests/compare and second and from the archive.
+ * FACTOR multiplies the length of the run and may be below 1; the same SEED makes the same run.
  */
 #include "session.h"
 

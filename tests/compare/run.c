@@ -1,47 +1,31 @@
 #define _DEFAULT_SOURCE
 #include "run.h"
 #include "random.h"
+#include "room.h"
 
-#include <stdio.h>
-#include <stdlib.h>
-#include <sys/mman.h>
-
-enum { PAGE_LENGTH = 4096, OUTSIDE = 0xA5 };
+enum { OUTSIDE = 0xA5 };
 
 static const char *const refused_by_both = "naming: answer to a table built well formed";
-
-/* The page after a room can't be touched, so a read or write past a lent buffer stops the program. */
-static uint8_t *make_room(void)
-{
-	uint8_t *pages = mmap(NULL, 2 * PAGE_LENGTH, PROT_READ | PROT_WRITE, MAP_PRIVATE | MAP_ANONYMOUS, -1, 0);
-
-	if (pages == MAP_FAILED || mprotect(pages + PAGE_LENGTH, PAGE_LENGTH, PROT_NONE) != 0) {
-		perror("compare");
-		exit(2);
-	}
-	return pages + PAGE_LENGTH - ROOM_LENGTH;
-}
-
-static uint8_t *lent(uint8_t *room, size_t length, size_t shift)
-{
-	return room + ROOM_LENGTH - shift - length;
-}
 
 void run_prepare(struct run *run)
 {
 	run->sides[ARCHIVE] = (struct side){ dedakhumi_start, dedakhumi_apply, dedakhumi_name, NULL, NULL, NULL };
 	run->sides[SECOND] = (struct side){ second_start, second_apply, second_name, NULL, NULL, NULL };
+	room_watch();
 	for (int side = 0; side < SIDE_COUNT; side++) {
-		run->sides[side].table_room = make_room();
-		run->sides[side].report_room = make_room();
-		run->sides[side].event_room = make_room();
+		run->sides[side].table_room = room_make();
+		run->sides[side].report_room = room_make();
+		run->sides[side].event_room = room_make();
 	}
 }
 
 const uint8_t *run_table(const struct run *run, const struct trial *trial)
 {
-	return lent(run->sides[ARCHIVE].table_room, trial->table_length, trial->shift);
+	return room_lend(run->sides[ARCHIVE].table_room, trial->table_length, trial->shift);
 }
+
+/* Which side is being called, for when it doesn't return. */
+static volatile int called;
 
 static bool part(struct run *run, const char *place, long byte, unsigned archive, unsigned second)
 {
@@ -112,7 +96,8 @@ static void name_turns(struct run *run, const struct trial *trial)
 	for (int number = 0; number < SIDE_COUNT; number++) {
 		struct side *side = &run->sides[number];
 
-		run->difference.turns[number] = side->name(lent(side->table_room, trial->table_length, trial->shift),
+		called = number;
+		run->difference.turns[number] = side->name(room_lend(side->table_room, trial->table_length, trial->shift),
 			trial->table_length);
 	}
 }
@@ -129,7 +114,7 @@ static void lend_table(struct run *run, const struct trial *trial)
 		uint8_t *room = run->sides[side].table_room;
 
 		memset(room, OUTSIDE, ROOM_LENGTH);
-		memcpy(lent(room, trial->table_length, trial->shift), trial->table, trial->table_length);
+		memcpy(room_lend(room, trial->table_length, trial->shift), trial->table, trial->table_length);
 	}
 }
 
@@ -139,9 +124,11 @@ static bool start_both(struct run *run, const struct trial *trial)
 	size_t first = ROOM_LENGTH - trial->shift - trial->table_length;
 
 	memcpy(before, run->sides[ARCHIVE].table_room, ROOM_LENGTH);
-	for (int number = 0; number < SIDE_COUNT; number++)
+	for (int number = 0; number < SIDE_COUNT; number++) {
+		called = number;
 		run->difference.starts[number] = run->sides[number].start(run->sides[number].table_room + first,
 			trial->table_length, trial->policy);
+	}
 	if (run->difference.starts[ARCHIVE] != run->difference.starts[SECOND])
 		return part(run, "start", -1, run->difference.starts[ARCHIVE], run->difference.starts[SECOND]);
 	if (!same_tables(run, trial) ||
@@ -151,11 +138,18 @@ static bool start_both(struct run *run, const struct trial *trial)
 		left_alone(run, "byte of a refused table, was and is", before, run->sides[ARCHIVE].table_room, 0, ROOM_LENGTH);
 }
 
+static bool touched_outside(struct run *run)
+{
+	return part(run, "touched what was not lent", -1, called == ARCHIVE, called == SECOND);
+}
+
 bool run_open(struct run *run, const struct trial *trial)
 {
 	memset(&run->difference, 0, sizeof run->difference);
 	run->difference.step = NO_STEP;
 	lend_table(run, trial);
+	if (sigsetjmp(room_return, 0) != 0)
+		return touched_outside(run);
 	if (trial->starts && !start_both(run, trial))
 		return false;
 	name_turns(run, trial);
@@ -174,7 +168,7 @@ bool run_refused_by_both(const struct run *run)
 
 static void fill_report(uint8_t *room, const struct trial *trial, uint8_t fill)
 {
-	uint8_t *report = lent(room, trial->report_length, trial->shift);
+	uint8_t *report = room_lend(room, trial->report_length, trial->shift);
 	uint64_t random = fill;
 
 	memset(room, OUTSIDE, ROOM_LENGTH);
@@ -188,12 +182,13 @@ static void apply_both(struct run *run, const struct trial *trial, const struct 
 {
 	for (int number = 0; number < SIDE_COUNT; number++) {
 		struct side *side = &run->sides[number];
-		uint8_t *event = lent(side->event_room, step->event_length, 0);
+		uint8_t *event = room_lend(side->event_room, step->event_length, 0);
 
 		memcpy(event, step->event, step->event_length);
+		called = number;
 		run->difference.answers[number] = side->apply(
-			lent(side->table_room, trial->table_length, trial->shift), trial->table_length,
-			lent(side->report_room, trial->report_length, trial->shift), trial->report_length,
+			room_lend(side->table_room, trial->table_length, trial->shift), trial->table_length,
+			room_lend(side->report_room, trial->report_length, trial->shift), trial->report_length,
 			event, step->event_length);
 	}
 }
@@ -231,6 +226,8 @@ bool run_step(struct run *run, const struct trial *trial, size_t number)
 	uint8_t table[ROOM_LENGTH], report[ROOM_LENGTH];
 
 	run->difference.step = number;
+	if (sigsetjmp(room_return, 0) != 0)
+		return touched_outside(run);
 	fill_report(report, trial, step->fill);
 	memcpy(run->sides[ARCHIVE].report_room, report, ROOM_LENGTH);
 	memcpy(run->sides[SECOND].report_room, report, ROOM_LENGTH);

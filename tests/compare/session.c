@@ -45,6 +45,17 @@ struct step *session_new_step(struct session *session)
 	return step;
 }
 
+static void show_size(const struct trial *trial)
+{
+	printf("compare: shrunk to %zu events on ", trial->step_count);
+	if (trial->table_length != DEDAKHUMI_TABLE_LENGTH)
+		printf("%zu lent bytes\n", trial->table_length);
+	else if (trial->starts)
+		printf("a fresh table\n");
+	else
+		printf("a lent table of %d tasks\n", trial->table[HEADER_COUNT]);
+}
+
 static void give_up(struct session *session)
 {
 	struct trial *trial = &session->trial;
@@ -55,8 +66,7 @@ static void give_up(struct session *session)
 	shrink(&session->run, trial);
 	show_trial(trial);
 	show_difference(&session->run, trial);
-	printf("compare: shrunk to %zu events, %d tasks lent\n", trial->step_count,
-		trial->starts ? 0 : trial->table[HEADER_COUNT]);
+	show_size(trial);
 	exit(1);
 }
 

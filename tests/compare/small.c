@@ -1,4 +1,4 @@
-/* Every table of up to two tasks over small ranges of each field, good or not, and every event of small ranges on the good ones. */
+/* Every table of up to two tasks over small ranges of each field, good or not, and small ranges of events on the good ones. */
 #include "events.h"
 #include "random.h"
 #include "session.h"
