@@ -76,19 +76,27 @@ static bool same_turn(struct run *run)
 	return true;
 }
 
+/* A stretch of a room before and after; first is where the lent bytes begin. */
+struct stretch {
+	const uint8_t *before;
+	const uint8_t *after;
+	size_t first;
+	size_t length;
+};
+
 /* The sides agree when this is asked, so the archive's room stands for both. */
-static bool left_alone(struct run *run, const char *place, const uint8_t *before, const uint8_t *after, size_t from, size_t to)
+static bool left_alone(struct run *run, const char *place, struct stretch stretch, size_t from, size_t to)
 {
 	for (size_t byte = from; byte < to; byte++)
-		if (before[byte] != after[byte])
-			return part(run, place, (long)byte, before[byte], after[byte]);
+		if (stretch.before[byte] != stretch.after[byte])
+			return part(run, place, (long)byte - (long)stretch.first, stretch.before[byte], stretch.after[byte]);
 	return true;
 }
 
-static bool outside_left_alone(struct run *run, const uint8_t *before, const uint8_t *after, size_t first, size_t length)
+static bool outside_left_alone(struct run *run, struct stretch stretch)
 {
-	return left_alone(run, "byte before a lent buffer, was and is", before, after, 0, first) &&
-		left_alone(run, "byte after a lent buffer, was and is", before, after, first + length, ROOM_LENGTH);
+	return left_alone(run, "byte before a lent buffer, was and is", stretch, 0, stretch.first) &&
+		left_alone(run, "byte after a lent buffer, was and is", stretch, stretch.first + stretch.length, ROOM_LENGTH);
 }
 
 static void name_turns(struct run *run, const struct trial *trial)
@@ -122,6 +130,7 @@ static bool start_both(struct run *run, const struct trial *trial)
 {
 	uint8_t before[ROOM_LENGTH];
 	size_t first = ROOM_LENGTH - trial->shift - trial->table_length;
+	struct stretch table = { before, run->sides[ARCHIVE].table_room, first, trial->table_length };
 
 	memcpy(before, run->sides[ARCHIVE].table_room, ROOM_LENGTH);
 	for (int number = 0; number < SIDE_COUNT; number++) {
@@ -131,11 +140,10 @@ static bool start_both(struct run *run, const struct trial *trial)
 	}
 	if (run->difference.starts[ARCHIVE] != run->difference.starts[SECOND])
 		return part(run, "start", -1, run->difference.starts[ARCHIVE], run->difference.starts[SECOND]);
-	if (!same_tables(run, trial) ||
-		!outside_left_alone(run, before, run->sides[ARCHIVE].table_room, first, trial->table_length))
+	if (!same_tables(run, trial) || !outside_left_alone(run, table))
 		return false;
 	return run->difference.starts[ARCHIVE] == ANSWER_DONE ||
-		left_alone(run, "byte of a refused table, was and is", before, run->sides[ARCHIVE].table_room, 0, ROOM_LENGTH);
+		left_alone(run, "byte of a table not started, was and is", table, 0, ROOM_LENGTH);
 }
 
 static bool touched_outside(struct run *run)
@@ -193,37 +201,39 @@ static void apply_both(struct run *run, const struct trial *trial, const struct 
 	}
 }
 
-static bool same_results(struct run *run, const struct trial *trial)
+static bool same_results(struct run *run, const struct trial *trial, const struct step *step)
 {
 	return same_answer(run) && same_tables(run, trial) &&
 		same_room(run, "report byte", run->sides[ARCHIVE].report_room, run->sides[SECOND].report_room,
 			ROOM_LENGTH - trial->shift - trial->report_length) &&
-		same_room(run, "event byte", run->sides[ARCHIVE].event_room, run->sides[SECOND].event_room, 0);
+		same_room(run, "event byte", run->sides[ARCHIVE].event_room, run->sides[SECOND].event_room,
+			ROOM_LENGTH - step->event_length);
 }
 
 /* The last two columns of the paper's answer numbers, and that nothing is written outside. */
-static bool kept_as_ruled(struct run *run, const struct trial *trial, const uint8_t *table, const uint8_t *report)
+static bool kept_as_ruled(struct run *run, struct stretch table, struct stretch report)
 {
 	uint8_t answer = run->difference.answers[ARCHIVE].answer;
-	const uint8_t *table_now = run->sides[ARCHIVE].table_room;
-	const uint8_t *report_now = run->sides[ARCHIVE].report_room;
 	bool same_report = answer != ANSWER_DONE && answer != ANSWER_ENDED_AT_ENTRY && answer != ANSWER_REJECTED;
+	bool same_table = same_report || answer == ANSWER_REJECTED;
 
-	if ((same_report || answer == ANSWER_REJECTED) &&
-		!left_alone(run, "byte of a refusing table, was and is", table, table_now, 0, ROOM_LENGTH))
+	if (same_table && !left_alone(run, "byte of a table that stays, was and is", table, 0, ROOM_LENGTH))
 		return false;
-	if (same_report && !left_alone(run, "byte of a refused report, was and is", report, report_now, 0, ROOM_LENGTH))
+	if (same_report && !left_alone(run, "byte of a report that stays, was and is", report, 0, ROOM_LENGTH))
 		return false;
-	return outside_left_alone(run, table, table_now, ROOM_LENGTH - trial->shift - trial->table_length,
-			trial->table_length) &&
-		outside_left_alone(run, report, report_now, ROOM_LENGTH - trial->shift - trial->report_length,
-			trial->report_length);
+	return outside_left_alone(run, table) && outside_left_alone(run, report);
 }
 
 bool run_step(struct run *run, const struct trial *trial, size_t number)
 {
 	const struct step *step = &trial->steps[number];
 	uint8_t table[ROOM_LENGTH], report[ROOM_LENGTH];
+	struct stretch tables = {
+		table, run->sides[ARCHIVE].table_room, ROOM_LENGTH - trial->shift - trial->table_length, trial->table_length
+	};
+	struct stretch reports = {
+		report, run->sides[ARCHIVE].report_room, ROOM_LENGTH - trial->shift - trial->report_length, trial->report_length
+	};
 
 	run->difference.step = number;
 	if (sigsetjmp(room_return, 0) != 0)
@@ -234,7 +244,7 @@ bool run_step(struct run *run, const struct trial *trial, size_t number)
 	memcpy(table, run->sides[ARCHIVE].table_room, ROOM_LENGTH);
 	apply_both(run, trial, step);
 	name_turns(run, trial);
-	return same_results(run, trial) && kept_as_ruled(run, trial, table, report) && same_turn(run);
+	return same_results(run, trial, step) && kept_as_ruled(run, tables, reports) && same_turn(run);
 }
 
 bool run_whole(struct run *run, const struct trial *trial)
