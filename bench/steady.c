@@ -1,46 +1,50 @@
-/* Instructions an event: COMMANDs and GOOD completions in turn, with the task set kept at N tasks.
-   See docs/landings/base-3.md for the command that counts them. */
-#include <stdbool.h>
-#include <stdint.h>
+/* Steady work for bench/run to count: COMMANDs and GOOD completions in turn, with the task set kept at N tasks. */
 #include <stdio.h>
 #include <stdlib.h>
-#include <string.h>
 
-struct dedakhumi_answer {
-	uint8_t answer, status, key, code, qualifier, ended;
-};
-uint8_t dedakhumi_start(uint8_t *table, size_t table_len, uint8_t policy);
-struct dedakhumi_answer dedakhumi_apply(uint8_t *table, size_t table_len, uint8_t *report, size_t report_len, const uint8_t *event, size_t event_len);
+#include "dedakhumi.h"
 
-static uint8_t table[584], report[512];
+#ifdef SECOND
+#include "second.h"
+#define START second_start
+#define APPLY second_apply
+#else
+#define START dedakhumi_start
+#define APPLY dedakhumi_apply
+#endif
 
-static void apply(uint8_t kind, unsigned nexus, unsigned tag, uint8_t control)
+enum kind { COMMAND = 1, COMPLETION = 2 };
+/* Bit 1 of a COMMAND's second byte: the power on that a fresh table has pending is not told. */
+enum { EXEMPT = 2 };
+
+static uint8_t table[DEDAKHUMI_TABLE_LENGTH], report[DEDAKHUMI_REPORT_LENGTH];
+
+static void apply(enum kind kind, unsigned number)
 {
-	uint8_t event[8] = {0x54, 0x56, kind, nexus, 0, control, tag >> 8, tag};
-	struct dedakhumi_answer a = dedakhumi_apply(table, sizeof table, report, sizeof report, event, sizeof event);
-	if (a.answer != 0) {
-		fprintf(stderr, "kind %u of %u.%u was answered %u\n", kind, nexus, tag, a.answer);
+	unsigned nexus = number % 8;
+	uint8_t event[DEDAKHUMI_EVENT_LENGTH] = {0x54, 0x56, (uint8_t)kind, (uint8_t)nexus, 0, kind == COMMAND ? EXEMPT : 0,
+						 (uint8_t)(number >> 8), (uint8_t)number};
+	struct dedakhumi_answer answer = APPLY(table, sizeof table, report, sizeof report, event, sizeof event);
+	if (answer.answer != 0) {
+		fprintf(stderr, "kind %u of %u.%u was answered %u\n", (unsigned)kind, nexus, number, answer.answer);
 		exit(1);
-	}
-}
-
-/* The events from here on are counted. */
-void steady(unsigned tasks, unsigned events)
-{
-	unsigned oldest = 0, next = tasks;
-	for (unsigned i = 0; i < events / 2; i++, oldest++, next++) {
-		apply(2, oldest % 8, oldest, 0);
-		apply(1, next % 8, next, 2);
 	}
 }
 
 int main(int argc, char **argv)
 {
-	unsigned tasks = argc > 1 ? atoi(argv[1]) : 3, events = argc > 2 ? atoi(argv[2]) : 2000;
-	if (dedakhumi_start(table, sizeof table, 0) != 0)
+	if (argc != 3) {
+		fprintf(stderr, "use: steady TASKS EVENTS\n");
+		return 2;
+	}
+	unsigned tasks = (unsigned)atoi(argv[1]), events = (unsigned)atoi(argv[2]);
+	if (START(table, sizeof table, 0) != 0)
 		return 1;
-	for (unsigned t = 0; t < tasks; t++)
-		apply(1, t % 8, t, 2);
-	steady(tasks, events);
+	for (unsigned number = 0; number < tasks; number++)
+		apply(COMMAND, number);
+	for (unsigned oldest = 0; oldest < events / 2; oldest++) {
+		apply(COMPLETION, oldest);
+		apply(COMMAND, oldest + tasks);
+	}
 	return 0;
 }
