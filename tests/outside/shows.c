@@ -37,8 +37,8 @@ unsigned task_count(const struct box *box)
 
 static void show_answer(const struct box *box, char *text)
 {
-	const struct dedakhumi_answer *a = &box->answer;
-	add(text, "%u %02X %02X %02X %02X %u", a->answer, a->status, a->key, a->code, a->qualifier, a->ended);
+	const struct dedakhumi_answer *given = &box->answer;
+	add(text, "%u %02X %02X %02X %02X %u", given->answer, given->status, given->key, given->code, given->qualifier, given->ended);
 }
 
 static void show_ended(const struct box *box, char *text)

@@ -77,27 +77,27 @@ static void check_kept(const struct application *application, enum answer answer
 		watch_fail("the event changed");
 }
 
-static void describe_apply(const struct application *a, bool table_writable, bool report_writable)
+static void describe_apply(const struct application *application, bool table_writable, bool report_writable)
 {
-	snprintf(text, sizeof text, "apply, %s (table %zu bytes %s%s, report %zu bytes %s%s, event %zu bytes %s, read only)", a->what,
-		 a->table.length, place_text(a->table, a->table_place), table_writable ? "" : ", read only", a->report.length,
-		 place_text(a->report, a->report_place), report_writable ? "" : ", read only", a->event.length,
-		 place_text(a->event, a->event_place));
+	const struct lent *lent_table = &application->table, *lent_report = &application->report, *lent_event = &application->event;
+	snprintf(text, sizeof text, "apply, %s (table %zu bytes %s%s, report %zu bytes %s%s, event %zu bytes %s, read only)",
+		 application->what, lent_table->length, place_text(*lent_table, application->table_place),
+		 table_writable ? "" : ", read only", lent_report->length, place_text(*lent_report, application->report_place),
+		 report_writable ? "" : ", read only", lent_event->length, place_text(*lent_event, application->event_place));
 	watch_case(text);
 }
 
-static enum answer apply_once(const struct application *a, bool table_writable, bool report_writable)
+static enum answer apply_once(const struct application *application, bool table_writable, bool report_writable)
 {
-	describe_apply(a, table_writable, report_writable);
-	fence_put(&table, a->table_place, a->table, table_writable);
-	fence_put(&report, a->report_place, a->report, report_writable);
-	fence_put(&event, a->event_place, a->event, false);
-	struct dedakhumi_answer given_answer =
-		dedakhumi_apply(table.begin, table.length, report.begin, report.length, event.begin, event.length);
-	enum answer answer = given_answer.answer;
+	describe_apply(application, table_writable, report_writable);
+	fence_put(&table, application->table_place, application->table, table_writable);
+	fence_put(&report, application->report_place, application->report, report_writable);
+	fence_put(&event, application->event_place, application->event, false);
+	enum answer answer =
+		dedakhumi_apply(table.begin, table.length, report.begin, report.length, event.begin, event.length).answer;
 	count_answer(APPLY, answer);
 	check_around();
-	check_kept(a, answer);
+	check_kept(application, answer);
 	return answer;
 }
 
@@ -159,29 +159,30 @@ void call_name_expecting(const char *what, struct lent lent, enum place place, e
 unsigned long calls_count(void)
 {
 	unsigned long count = 0;
-	for (int operation = 0; operation < OPERATIONS; operation++)
-		for (int answer = 0; answer < ANSWERS; answer++)
-			count += given[operation][answer];
+	for (int i = 0; i < OPERATIONS * ANSWERS; i++)
+		count += given[i / ANSWERS][i % ANSWERS];
 	return count;
+}
+
+/* Says how often the operation gave each answer; false if one that it can give is not among them. */
+static bool operation_covered(enum operation operation, const char *name, const bool possible[ANSWERS])
+{
+	bool covered = true;
+	printf("%s:", name);
+	for (int answer = 0; answer < ANSWERS; answer++) {
+		if (given[operation][answer] != 0)
+			printf(" answer %d %lu times,", answer, given[operation][answer]);
+		covered = covered && possible[answer] == (given[operation][answer] != 0);
+	}
+	printf("\n");
+	return covered;
 }
 
 bool calls_covered(void)
 {
-	static const char *const names[] = {"start", "apply", "name"};
-	static const bool possible[OPERATIONS][ANSWERS] = {
-		[START] = {[DONE] = true, [BAD_TABLE] = true, [BAD_POLICY] = true},
-		[APPLY] = {true, true, true, true, true, true, true, true, true, false},
-		[NAME] = {[DONE] = true, [BAD_TABLE] = true},
-	};
-	bool covered = true;
-	for (int operation = 0; operation < OPERATIONS; operation++) {
-		printf("%s:", names[operation]);
-		for (int answer = 0; answer < ANSWERS; answer++) {
-			if (given[operation][answer] != 0)
-				printf(" answer %d %lu times,", answer, given[operation][answer]);
-			covered = covered && possible[operation][answer] == (given[operation][answer] != 0);
-		}
-		printf("\n");
-	}
-	return covered;
+	static const bool by_start[ANSWERS] = {[DONE] = true, [BAD_TABLE] = true, [BAD_POLICY] = true};
+	static const bool by_apply[ANSWERS] = {true, true, true, true, true, true, true, true, true, false};
+	static const bool by_name[ANSWERS] = {[DONE] = true, [BAD_TABLE] = true};
+	bool start = operation_covered(START, "start", by_start), apply = operation_covered(APPLY, "apply", by_apply);
+	return operation_covered(NAME, "name", by_name) && start && apply;
 }

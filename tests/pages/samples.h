@@ -8,6 +8,14 @@
 #include "calls.h"
 #include "dedakhumi.h"
 
+/* Document 01, "Bytes". */
+enum { SIMPLE = 0, HEAD_OF_QUEUE = 1, ORDERED = 2, ACA = 4 };
+enum { DORMANT = 1, ENABLED = 2, BLOCKED = 3 };
+enum { NEXUS_RECORDS = 8, TASK_RECORDS = 72, RECORD_LENGTH = 8 };
+
+/* Good tables that others are made from: places in the list of tables.c. */
+enum { EMPTY = 0, CASE_B = 4, FULL = 7, ACA_ALONE = 11, ACA_AND_TASK = 12 };
+
 struct sample_table {
 	const char *name;
 	uint8_t bytes[DEDAKHUMI_TABLE_LENGTH];
@@ -20,25 +28,13 @@ struct sample_event {
 	enum answer refusal;
 };
 
-/* A good table with some bytes put wrong. */
-struct sample_damage {
-	const char *name;
-	size_t table;
-	struct {
-		size_t offset;
-		uint8_t byte;
-	} changes[8];
-};
-
-enum { DAMAGE_END = DEDAKHUMI_TABLE_LENGTH };
-
 extern const struct sample_event sample_events[];
 extern const size_t sample_event_count;
 extern const size_t sample_table_count;
-extern const struct sample_damage sample_damages[];
 extern const size_t sample_damage_count;
 
 void sample_good_table(size_t index, struct sample_table *table);
+/* A good table with a byte or two put wrong. */
 void sample_bad_table(size_t index, struct sample_table *table);
 
 #endif
