@@ -1,0 +1,60 @@
+/* A harvest night in a depot: the scenes in their order, and what each host heard. Ends with 1 if something happened that must not. */
+#include <stdio.h>
+#include <stdlib.h>
+
+#include "records.h"
+#include "scenes.h"
+
+static const char total_format[] = "%-16s %5s %8s %5s %5s | %5s %5s %5s %5s %5s %6s\n";
+
+static void print_host(const struct box *box, unsigned nexus)
+{
+	const struct host *host = &box->hosts.host[nexus];
+	const unsigned numbers[] = {host->sent, host->accepted, host->ended, host->silent, host->heard[DEDAKHUMI_STATUS_GOOD],
+		host->heard[DEDAKHUMI_STATUS_CHECK_CONDITION], host->heard[DEDAKHUMI_STATUS_BUSY], host->heard[DEDAKHUMI_STATUS_TASK_SET_FULL],
+		host->heard[DEDAKHUMI_STATUS_ACA_ACTIVE], host->heard[DEDAKHUMI_STATUS_TASK_ABORTED]};
+	printf("%-16s %5u %8u %5u %5u | %5u %5u %5u %5u %5u %6u\n", host_name(nexus), numbers[0], numbers[1], numbers[2], numbers[3],
+		numbers[4], numbers[5], numbers[6], numbers[7], numbers[8], numbers[9]);
+}
+
+/* Each accepted command is either in the table or has ended, once. */
+static bool is_balanced(const struct box *box)
+{
+	unsigned accepted = 0, ended = 0, left = task_count(&box->port);
+	for (unsigned nexus = 0; nexus < DEDAKHUMI_NEXUSES; nexus++) {
+		accepted += box->hosts.host[nexus].accepted;
+		ended += box->hosts.host[nexus].ended;
+	}
+	printf("accepted %u = ended %u + left %u; events %u; faults %u\n", accepted, ended, left, box->trace.events, box->faults);
+	return accepted == ended + left && left == count_requests(&box->kept);
+}
+
+static bool sum_up(const struct box *box)
+{
+	printf("\nWhat each host sent and heard\n");
+	printf(total_format, "", "sent", "accepted", "ended", "FFh", "00h", "02h", "08h", "28h", "30h", "40h");
+	for (unsigned nexus = 0; nexus < DEDAKHUMI_NEXUSES; nexus++)
+		print_host(box, nexus);
+	return is_balanced(box) && box->faults == 0;
+}
+
+int main(void)
+{
+	struct box box = {.policy = 0};
+	if (box_start(&box, 0x02) || !box_start(&box, DEDAKHUMI_POLICY_QERR_NONE))
+		return EXIT_FAILURE;
+	scene_power_on(&box);
+	scene_tile(&box);
+	scene_heads_of_queue(&box);
+	scene_traffic(&box);
+	scene_full(&box);
+	scene_allegiance(&box);
+	scene_nexus_loss(&box);
+	scene_aborts(&box);
+	scene_host_errors(&box);
+	scene_driver_errors(&box);
+	scene_resets(&box);
+	scene_damaged_table(&box);
+	scene_other_depots();
+	return sum_up(&box) ? EXIT_SUCCESS : EXIT_FAILURE;
+}

@@ -1,0 +1,19 @@
+/* The part of a port driver to take over as it is: it lends the buffers and calls the three operations. */
+#ifndef PORT_H
+#define PORT_H
+
+#include "dedakhumi.h"
+#include "events.h"
+
+/* Two separate arrays, so that table and report cannot overlap. Everything else reads them through records.h and writes to neither. */
+struct port {
+	uint8_t table[DEDAKHUMI_TABLE_LENGTH];
+	uint8_t report[DEDAKHUMI_REPORT_LENGTH];
+};
+
+/* These three answer as the operations of dedakhumi.h do. */
+uint8_t port_start(struct port *port, uint8_t policy);
+struct dedakhumi_answer port_apply(struct port *port, const struct event *event);
+struct dedakhumi_turn port_turn(const struct port *port);
+
+#endif

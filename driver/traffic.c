@@ -1,0 +1,64 @@
+/* The busy hours: tiles come in and are read, then everybody at once. */
+#include "commands.h"
+#include "records.h"
+#include "scenes.h"
+#include "turns.h"
+#include "wishes.h"
+
+enum { MAPPERS = 4, OPERATOR = 6, KERNEL = 7, FIRST_TILE = 20, TILES = 48 };
+
+/* The same numbers on every machine: the trace is compared byte by byte. */
+static unsigned next_number(uint32_t *seed, unsigned below)
+{
+	*seed = *seed * 1664525u + 1013904223u;
+	return (*seed >> 16) % below;
+}
+
+/* The read is sent when the write is in the table; it is for the box that it doesn't overtake. */
+static void send_tile(struct box *box, uint32_t *seed, unsigned tile)
+{
+	uint8_t mapper = (uint8_t)next_number(seed, MAPPERS);
+	box_command(box, mapper, fill_of(tile));
+	box_command(box, mapper, ordered(write_of(tile, 40 + (int)next_number(seed, 60))));
+	box_command(box, KERNEL, read_of(tile));
+}
+
+static void send_others(struct box *box, uint32_t *seed, unsigned tile)
+{
+	if (next_number(seed, 3) == 0)
+		box_command(box, OPERATOR, urgent_inquiry());
+	if (next_number(seed, 2) == 0)
+		box_command(box, (uint8_t)next_number(seed, DEDAKHUMI_NEXUSES), read_of(FIRST_TILE + next_number(seed, tile - FIRST_TILE + 1)));
+}
+
+static void run_some(struct box *box, unsigned turns)
+{
+	while (turns > 0 && box_run_next(box))
+		turns--;
+}
+
+void scene_traffic(struct box *box)
+{
+	uint32_t seed = 9999;
+	trace_title("4. The busy hours: tiles are filled, written and read, with urgent inquiries and other reads between");
+	for (unsigned tile = FIRST_TILE; tile < FIRST_TILE + TILES; tile++) {
+		send_tile(box, &seed, tile);
+		send_others(box, &seed, tile);
+		run_some(box, 2 + next_number(&seed, 4));
+	}
+	box_run_all(box);
+}
+
+void scene_full(struct box *box)
+{
+	trace_title("5. Everybody at once: the 65th task finds the set full, and enters when a place is free");
+	for (unsigned tile = 0; task_count(&box->port) < DEDAKHUMI_TASKS; tile++)
+		box_command(box, (uint8_t)(tile % DEDAKHUMI_NEXUSES), read_of(FIRST_TILE + tile % TILES));
+	box_command(box, KERNEL, read_of(12));
+	box_command(box, OPERATOR, urgent_inquiry());
+	box_run_next(box);
+	box_commands_again(box);
+	box_run_next(box);
+	box_commands_again(box);
+	box_run_all(box);
+}
