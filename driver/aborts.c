@@ -47,7 +47,7 @@ void scene_host_errors(struct box *box)
 
 void scene_resets(struct box *box)
 {
-	trace_title("11. Dawn: the operator resets the unit, then the bus is reset; the higher of the two is told");
+	trace_title("11. Dawn: the operator resets the unit, then the bus is reset, which is told in the place of the first");
 	box_command(box, NORTH_MAPPER, ordered(write_of(12, 73)));
 	box_command(box, KERNEL, read_of(12));
 	box_function(box, OPERATOR, DEDAKHUMI_FUNCTION_LOGICAL_UNIT_RESET);

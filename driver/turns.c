@@ -47,8 +47,10 @@ bool box_run_next(struct box *box)
 		return true;
 	}
 	struct dedakhumi_turn turn = port_turn(&box->port);
-	if (turn.answer == DEDAKHUMI_BAD_TABLE)
+	if (turn.answer == DEDAKHUMI_BAD_TABLE) {
+		trace_note("naming is answered 1 bad table");
 		box_start_over(box);
+	}
 	if (turn.found)
 		box_disk_ends(box, turn.nexus, turn.tag, DEDAKHUMI_STATUS_GOOD);
 	return turn.found;

@@ -14,6 +14,8 @@
    - Only the library writes to a table. A table that somebody else wrote to is refused with 1 if it is no longer well formed; if it still
      is, it is taken for what it says.
    - A null pointer comes only with the length 0. Such a call is refused: no lent buffer has the right length 0.
+   - A COMPLETION is for the command that is in the table now. Before a tag is used again, the disk has let go of the task that had it: a late
+     completion of an ended task is answered 5 while the tag is unused, and would be taken for the new task's once it is used again.
    Bytes need no alignment. A table may be copied, stored and lent again from another place. */
 #ifndef DEDAKHUMI_H
 #define DEDAKHUMI_H
