@@ -25,11 +25,10 @@ WARNINGS := -Wall -Wextra -pedantic -Werror
 COMPILE_C = $(CC) -std=c11 $(WARNINGS) -Iinclude
 COMPILE_CXX = $(CXX) -std=c++17 $(WARNINGS) -Iinclude
 SANITIZE := -O1 -g -fsanitize=address,undefined -fno-sanitize-recover=all
-# for the scripts of tests/ and bench/
-export CC CXX RUN VERSION
-
 HEADER := include/dedakhumi.h
 ARCHIVE := build/libdedakhumi.a
+# for the scripts of tests/ and bench/
+export CC CXX RUN VERSION ARCHIVE
 CRATES := crates.txt $(shell find crates -type f)
 
 .PHONY: all
@@ -107,17 +106,23 @@ test-install: $(ARCHIVE)
 test-driver: build/night $(SANITIZED:%=build/night%)
 	tests/driver $(filter build/%,$^)
 
-# The scripts named faults try the tests themselves on faulty versions, which the emulator need not repeat.
+# A script named faults tries its test on faulty versions; the emulator need not repeat that.
+faults = $(if $(RUN),,$(wildcard tests/$(1)/faults))
+
+# FACTOR makes the comparison that many times as long.
+FACTOR ?= 1
 test-compare: build/compare $(SANITIZED:%=build/compare%) tests/compare/faults
-	for program in $(filter build/%,$^); do $(RUN) $$program 1; done
-	$(if $(RUN),,tests/compare/faults)
+	$(RUN) build/compare $(FACTOR)
+	$(SANITIZED:%=build/compare% 1)
+	$(if $(call faults,compare),tests/compare/faults $(ARCHIVE))
 
 test-pages: build/pages
 	$(RUN) build/pages
-	$(if $(RUN),,$(wildcard tests/pages/faults))
+	$(call faults,pages)
 
 test-outside: build/outside tests/outside/*.txt
 	$(RUN) build/outside $(filter %.txt,$^)
+	$(call faults,outside)
 
 test-promises: tests/promises
 	tests/promises
