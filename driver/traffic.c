@@ -23,12 +23,20 @@ static void send_tile(struct box *box, uint32_t *seed, unsigned tile)
 	box_command(box, KERNEL, read_of(tile));
 }
 
-static void send_others(struct box *box, uint32_t *seed, unsigned tile)
+/* Of a tile that was sent before. */
+static void send_read(struct box *box, uint32_t *seed, unsigned last_tile)
+{
+	unsigned tile = FIRST_TILE + next_number(seed, last_tile - FIRST_TILE + 1);
+	uint8_t reader = (uint8_t)next_number(seed, DEDAKHUMI_NEXUSES);
+	box_command(box, reader, read_of(tile));
+}
+
+static void send_others(struct box *box, uint32_t *seed, unsigned last_tile)
 {
 	if (next_number(seed, 3) == 0)
 		box_command(box, OPERATOR, urgent_inquiry());
 	if (next_number(seed, 2) == 0)
-		box_command(box, (uint8_t)next_number(seed, DEDAKHUMI_NEXUSES), read_of(FIRST_TILE + next_number(seed, tile - FIRST_TILE + 1)));
+		send_read(box, seed, last_tile);
 }
 
 static void run_some(struct box *box, unsigned turns)
