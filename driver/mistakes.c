@@ -2,6 +2,7 @@
 #include <string.h>
 
 #include "commands.h"
+#include "refusals.h"
 #include "scenes.h"
 #include "turns.h"
 #include "wishes.h"
@@ -31,7 +32,7 @@ static void lend_a_short_report(struct box *box)
 	struct dedakhumi_answer answer = dedakhumi_apply(box->port.table, sizeof box->port.table, box->port.report,
 		sizeof box->port.report - 1, event.bytes, sizeof event.bytes);
 	trace_event(&box->trace, &box->port, &event, "(report of 511 bytes)", &answer);
-	trace_note("our own report buffer has a wrong length; nothing has changed, and the event is given again");
+	after_refusal(box, &event, answer.answer);
 	if (memcmp(&before, &box->port, sizeof before) != 0)
 		box->faults++;
 	box_disk_ends(box, YIELD_GATEWAY, 9000, DEDAKHUMI_STATUS_GOOD);

@@ -21,7 +21,7 @@ void after_refusal(struct box *box, const struct event *event, uint8_t answer)
 		box_start_over(box);
 		break;
 	case DEDAKHUMI_BAD_REPORT:
-		trace_note("our own report buffer has a wrong length; nothing has changed, and the event can be given again");
+		trace_note("our own report buffer has a wrong length; nothing has changed, and the event is given again");
 		break;
 	case DEDAKHUMI_BAD_EVENT:
 		trace_note("this is no event; nothing has changed, and the frame is dropped");
