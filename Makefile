@@ -3,6 +3,8 @@
 SHELL := /bin/bash
 .SHELLFLAGS := -eu -o pipefail -c
 .DELETE_ON_ERROR:
+# Two runs of rt at a time would both write to target/.
+.NOTPARALLEL:
 
 # 0 until the customer's change requests are in, which change lengths and layouts; then the landing of the base.
 VERSION := 0.3.0
@@ -39,11 +41,10 @@ $(ARCHIVE): $(CRATES)
 	@mkdir -p build
 	cp target/staticlib/libdedakhumi.a $@
 
-# After the archive: two runs of rt at a time would both write to target/.
-build/player: $(CRATES) | $(ARCHIVE)
-	rt check player
+build/player build/replay: build/%: $(CRATES)
+	rt check $*
 	@mkdir -p build
-	cp target/bin/player $@
+	cp target/bin/$* $@
 
 build/dedakhumi.h: $(HEADER)
 	@mkdir -p build
@@ -79,7 +80,7 @@ $(eval $(call program,pages,tests/pages/*.c,tests/pages/*.h,))
 $(eval $(call program,outside,tests/outside/*.c,tests/outside/*.h,))
 
 # One after the other, the quick ones first. The last line is that of `rt ci`: N passed, 0 failed.
-TESTS := need header install driver compare pages outside promises
+TESTS := need header promises install driver outside pages cases compare
 .PHONY: test
 test:
 	@for test in $(TESTS); do \
@@ -113,7 +114,7 @@ faults = $(if $(RUN),,$(wildcard tests/$(1)/faults))
 FACTOR ?= 1
 test-compare: build/compare $(SANITIZED:%=build/compare%) tests/compare/faults
 	$(RUN) build/compare $(FACTOR)
-	$(SANITIZED:%=build/compare% 1)
+	$(SANITIZED:%=build/compare% 0.2)
 	$(if $(call faults,compare),tests/compare/faults $(ARCHIVE))
 
 test-pages: build/pages
@@ -123,6 +124,12 @@ test-pages: build/pages
 test-outside: build/outside tests/outside/*.txt
 	$(RUN) build/outside $(filter %.txt,$^)
 	$(call faults,outside)
+
+# That what the replay reads and has to write is what the cases say, and what it does with input that they don't have. That it writes it,
+# `rt ci` tries.
+test-cases: build/replay
+	tests/cases/make-replay --check
+	tests/cases/try-frames $<
 
 test-promises: tests/promises
 	tests/promises
