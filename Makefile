@@ -117,12 +117,14 @@ test-compare: build/compare $(SANITIZED:%=build/compare%) tests/compare/faults
 	$(SANITIZED:%=build/compare% 0.2)
 	$(if $(call faults,compare),tests/compare/faults $(ARCHIVE))
 
-test-pages: build/pages
+test-pages: build/pages $(SANITIZED:%=build/pages%)
 	$(RUN) build/pages
+	$(SANITIZED:%=build/pages%)
 	$(call faults,pages)
 
-test-outside: build/outside tests/outside/*.txt
+test-outside: build/outside $(SANITIZED:%=build/outside%) tests/outside/*.txt
 	$(RUN) build/outside $(filter %.txt,$^)
+	$(SANITIZED:%=build/outside% $(filter %.txt,$^))
 	$(call faults,outside)
 
 # That what the replay reads and has to write is what the cases say, and what it does with input that they don't have. That it writes it,
