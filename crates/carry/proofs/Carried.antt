@@ -7,7 +7,8 @@ use native.Mathlib.Omega.{arith}
 use lib.ListN.{length, drop, set, length-append, take-append-drop}
 use Rattle.laws.specs.Records.{recordAt, putAt}
 use Rattle.rules.specs.Tasks.{settleFrom, restate}
-use Rattle.rules.specs.Rulings.{State, withCount, kept, lost, fateOf, newcomers, noted, tasksAfter, ruled, reportOf}
+use Rattle.values.specs.Headers.{withCount}
+use Rattle.rules.specs.Rulings.{State, kept, lost, fateOf, newcomers, noted, tasksAfter, ruled, reportOf}
 use Rattle.rules.specs.Well.{faultFits}
 use Rattle.rules.proofs.Fates.{length-split}
 use Rattle.rules.proofs.Distinct.{length-restate}
@@ -20,7 +21,7 @@ use Rattle.steps.specs.Steps.{losers, keptCount, closedBytes, endsOf}
 use Rattle.steps.proofs.Carried.{withTasks, withPending, withHeader, settled-table, blocked-table}
 use Rattle.steps.proofs.Closed.{kept-count, losers-are, ends-are, closed-table, joined-table, header-table}
 use Rattle.steps.proofs.Noted.{noted-table}
-use Rattle.steps.specs.Types.{Task, Pending, Header, Ended, Allegiance, Clear, Faulted, Bit, Fate, Notice, Quiet, Reported, OthersLost, NexusLost, UnitWasReset, HardWasReset, PowerCameOn, Joins, NoTask, NewTask, Change, Done, Changes}
+use Rattle.rules.specs.Types.{Task, Pending, Header, Ended, Allegiance, Clear, Faulted, Bit, Fate, Notice, Quiet, Reported, OthersLost, NexusLost, UnitWasReset, HardWasReset, PowerCameOn, Joins, NoTask, NewTask, Change, Done, Changes}
 use Rattle.carry.specs.Carrying.{notedUnlessQuiet, joinedBytes, restatedBytes, HeaderKept}
 use Rattle.carry.specs.Changes.{ChangeFits, ChangedAs}
 

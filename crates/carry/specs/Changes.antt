@@ -7,7 +7,7 @@ use lib.ListN.{length}
 use Rattle.rules.specs.Rulings.{ruled, reportOf}
 use Rattle.rules.specs.Well.{wellFormed}
 use Rattle.records.specs.Tables.{stateOf, tableBytes, reportBytes, goodTable}
-use Rattle.steps.specs.Types.{Allegiance, Change, Done, Changes}
+use Rattle.rules.specs.Types.{Allegiance, Change, Done, Changes}
 
 pub record ChangeFits (t r : List ℕ) (n : ℕ) (before : Allegiance) (c : Change) : Type 0 where
   pub good : goodTable t ≡ true

@@ -11,7 +11,8 @@ use Rattle.rules.specs.Tasks.{holdsBack, eligible, enabledIf, withState, settle
 use Rattle.rules.specs.Well.{settledTask, heldTask, settled, held, statesFit}
 use Rattle.rules.proofs.Settled.{headTask, settled-cons, enabled-head, oldest-enabled}
 use Rattle.rules.proofs.Turns.{none-plain, oldest-plain}
-use Rattle.decide.specs.Types.{Attribute, Simple, HeadOfQueue, Ordered, Aca, Task, Allegiance, Clear, Faulted, Turn, Older, Found, Nowhere, Here}
+use Rattle.rules.specs.Types.{Attribute, Simple, HeadOfQueue, Ordered, Aca, Task, Allegiance, Clear, Faulted, Turn}
+use Rattle.decide.specs.Types.{Older, Found, Nowhere, Here}
 use Rattle.decide.specs.Walks.{noOlder, behindBy, eligibleBy, fitsBy, settledBy, fitBy}
 use Rattle.decide.specs.Searches.{isHere, foundIn, taskIn, chosen, turnFound}
 

@@ -11,7 +11,8 @@ use mathlib.Core.Bool.{Bool, true, false, cond, _||_, _&&_, not}
 use mathlib.Core.Option.{Option, none, some}
 use lib.Dec.{ltb}
 use Rattle.rules.specs.Tasks.{acaTask, same, enabledHead, enabledPlain}
-use Rattle.decide.specs.Types.{Task, Turn, Nothing, Names, Want, TheHead, ThePlain, TheAca, TheTask, Found, Nowhere, Here}
+use Rattle.rules.specs.Types.{Task, Turn, Nothing, Names}
+use Rattle.decide.specs.Types.{Want, TheHead, ThePlain, TheAca, TheTask, Found, Nowhere, Here}
 
 abbrev pub wanted : Want → Task → Bool
 wanted TheHead t = enabledHead t

@@ -12,7 +12,8 @@ use lib.Dec.{eqb}
 use Rattle.laws.specs.Lists.{isNil}
 use Rattle.rules.specs.Tasks.{withState, enabledIf, holdsBack}
 use Rattle.rules.specs.Well.{settledTask, heldTask}
-use Rattle.decide.specs.Types.{Attribute, Simple, HeadOfQueue, Ordered, Aca, Task, Allegiance, Clear, Faulted, Older}
+use Rattle.rules.specs.Types.{Attribute, Simple, HeadOfQueue, Ordered, Aca, Task, Allegiance, Clear, Faulted}
+use Rattle.decide.specs.Types.{Older}
 
 abbrev pub noOlder : Older
 noOlder = record { any = false; barrier = false }

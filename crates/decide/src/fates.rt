@@ -1,11 +1,11 @@
 // One task's fate under a sweep.
 use crate::states::is_aca;
-use rules::Fate;
-use rules::Policy;
-use rules::Qerr;
-use rules::Sweep;
-use rules::Tag;
-use rules::Task;
+use values::Fate;
+use values::Policy;
+use values::Qerr;
+use values::Sweep;
+use values::Tag;
+use values::Task;
 ghost use mathlib.Core.Path.{_≡_};
 ghost use mathlib.Core.Bool.{cond};
 ghost use Rattle.rules.specs.Tasks.{ofNexus, same};

@@ -1,8 +1,8 @@
 // The pending bits of a nexus.
-use rules::Bit;
-use rules::Pending;
-use rules::Sense;
-use rules::Top;
+use values::Bit;
+use values::Pending;
+use values::Sense;
+use values::Top;
 ghost use mathlib.Core.Path.{_≡_};
 ghost use Rattle.rules.specs.Bits.{noPending, top, senseFor, without, afterPowerOn, afterHardReset, afterUnitReset, afterNexusLoss, afterCleared};
 

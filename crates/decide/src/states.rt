@@ -1,8 +1,8 @@
 // One task: whether it is eligible, its next state, and whether its state fits.
-use rules::Allegiance;
-use rules::Attribute;
-use rules::Task;
-use rules::TaskState;
+use values::Allegiance;
+use values::Attribute;
+use values::Task;
+use values::TaskState;
 ghost use mathlib.Core.Path.{_≡_};
 ghost use Rattle.rules.specs.Tasks.{isHead, isPlain, isAca, isEnabled, enabledIf, blockedIfEnabled};
 ghost use Rattle.rules.specs.Well.{sameState, settledTask, heldTask};

@@ -11,7 +11,7 @@ use Rattle.rules.specs.Rulings.{State, pendingOf, turn}
 use Rattle.rules.specs.Rules.{clearing, enter, complete, manage, happen, ruleFor}
 use Rattle.rules.proofs.Cases.{enter-cases}
 use Rattle.table.specs.Answers.{said, writesReport}
-use Rattle.dedakhumi.specs.Types.{Task, Finish, Function, AbortTask, AbortTaskSet, ClearTaskSet, ClearAca, LogicalUnitReset, Unknown, Happening, PowerOn, HardReset, NexusLoss, Event, Command, Completion, Management, Condition, Allegiance, Clear, Faulted, Answer, Ruling, Keeps, Changes}
+use Rattle.rules.specs.Types.{Task, Finish, Function, AbortTask, AbortTaskSet, ClearTaskSet, ClearAca, LogicalUnitReset, Unknown, Happening, PowerOn, HardReset, NexusLoss, Event, Command, Completion, Management, Condition, Allegiance, Clear, Faulted, Answer, Ruling, Keeps, Changes}
 
 abbrev pub numberOf : Answer → ℕ
 numberOf a = (said a) .number

@@ -8,7 +8,7 @@ use Rattle.records.proofs.GoodSays.{good-written, good-table-says}
 use Rattle.history.specs.History.{begin, play, after}
 use Rattle.history.proofs.Reached.{tested-after}
 use Rattle.history.proofs.Conserve.{exactly-one, ended-grows}
-use Rattle.dedakhumi.specs.Types.{Policy}
+use Rattle.rules.specs.Types.{Policy}
 use Rattle.dedakhumi.specs.Moves.{Move, tableBy, Lent, eventsIn, opened}
 use Rattle.dedakhumi.specs.Demands.{Demand2}
 use Rattle.dedakhumi.proofs.Runs.{outcome-is, named-is, table-runs, events-append, play-append}

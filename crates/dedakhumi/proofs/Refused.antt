@@ -15,7 +15,9 @@ use Rattle.records.specs.Tables.{stateOf, GoodTable, tableBytes, goodTable}
 use Rattle.records.specs.Events.{eventOf}
 use Rattle.records.proofs.GoodSays.{good-table-says}
 use Rattle.table.specs.Operations.{Outcome, refused, carried, onEvent, outcome, named, Started, start, started}
-use Rattle.dedakhumi.specs.Types.{Event, Done, BadTable, BadReport, BadEvent, NexusAboveSeven, BadPolicy, Naming, Ruling, Keeps, Changes, EventRead, Readable, Unreadable}
+use Rattle.rules.specs.Types.{Event, Done, BadTable, BadReport, BadEvent, NexusAboveSeven, BadPolicy, Ruling, Keeps, Changes}
+use Rattle.records.specs.declared.events.EventRead.{EventRead, the-variants.Readable, the-variants.Unreadable}
+use Rattle.table.specs.declared.name.Naming.{Naming}
 use Rattle.dedakhumi.specs.Demands.{Demand1, number, startNumber, nameNumber}
 use Rattle.dedakhumi.proofs.Answered.{numberOf, AnsweredAs, rule-answers}
 

@@ -22,7 +22,8 @@ use Rattle.history.specs.History.{Past, begin, advance, play, after, isDone, tu
 use Rattle.history.proofs.Reached.{tested-advance, tested-play}
 use Rattle.table.specs.Answers.{said, writesReport}
 use Rattle.table.specs.Operations.{Outcome, refused, carried, onEvent, outcome, naming, named}
-use Rattle.dedakhumi.specs.Types.{Event, Command, Completion, Management, Condition, Policy, Allegiance, Clear, Faulted, Answer, Done, BadTable, BadReport, BadEvent, NexusAboveSeven, NoSuchTask, NotEnabled, EndedAtEntry, Rejected, BadPolicy, Ruling, Keeps, Changes, EventRead, Readable, Unreadable, Turn}
+use Rattle.rules.specs.Types.{Event, Command, Completion, Management, Condition, Policy, Allegiance, Clear, Faulted, Answer, Done, BadTable, BadReport, BadEvent, NexusAboveSeven, NoSuchTask, NotEnabled, EndedAtEntry, Rejected, BadPolicy, Ruling, Keeps, Changes, Turn}
+use Rattle.records.specs.declared.events.EventRead.{EventRead, the-variants.Readable, the-variants.Unreadable}
 use Rattle.dedakhumi.specs.Moves.{Move, applied, tableBy, Lent, readIn, eventsIn, opened, completes, isTurnBy, turnsBy, expectedOn, expected}
 use Rattle.dedakhumi.proofs.Answered.{numberOf, AnsweredAs, rule-answers}
 

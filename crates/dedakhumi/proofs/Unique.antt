@@ -3,7 +3,9 @@ use Prim.Native.Nat.{ℕ}
 use mathlib.Core.Path.{_≡_, sym, _∙_}
 use mathlib.Core.List.{List}
 use Rattle.table.specs.Operations.{Outcome, AppliedAs, named, Started, StartedAs}
-use Rattle.dedakhumi.specs.Types.{Answer, Applied, Naming}
+use Rattle.rules.specs.Types.{Answer}
+use Rattle.table.specs.declared.apply.Applied.{Applied}
+use Rattle.table.specs.declared.name.Naming.{Naming}
 
 joint : {A : Type 0} {x y z : A} → x ≡ z → y ≡ z → x ≡ y
 joint p q = p ∙ sym q

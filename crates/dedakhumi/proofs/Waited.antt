@@ -8,7 +8,8 @@ use Rattle.records.proofs.Written.{table-count}
 use Rattle.history.specs.History.{Past, advance, play, after, turns}
 use Rattle.history.proofs.Reached.{tested-after}
 use Rattle.history.proofs.Wait.{waits}
-use Rattle.dedakhumi.specs.Types.{Event, Policy, EventRead, Readable}
+use Rattle.rules.specs.Types.{Event, Policy}
+use Rattle.records.specs.declared.events.EventRead.{EventRead, the-variants.Readable}
 use Rattle.dedakhumi.specs.Moves.{Move, tableBy, Lent, readIn, eventsIn, opened, turnsBy}
 use Rattle.dedakhumi.specs.Demands.{Demand3}
 use Rattle.dedakhumi.proofs.Runs.{turns-run}

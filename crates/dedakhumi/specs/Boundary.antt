@@ -8,7 +8,9 @@ use Prim.Native.Nat.{ℕ}
 use mathlib.Core.Bool.{true, false}
 use Rattle.table.specs.Answers.{said}
 use Rattle.table.specs.Operations.{Outcome}
-use Rattle.dedakhumi.specs.Types.{Answer, Turn, Nothing, Names, Naming, Answered, NamedTurn}
+use Rattle.rules.specs.Types.{Answer, Turn, Nothing, Names}
+use Rattle.table.specs.declared.name.Naming.{Naming}
+use Rattle.dedakhumi.specs.Types.{Answered, NamedTurn}
 
 abbrev pub numbersOf : Answer → ℕ → Answered
 numbersOf a n =

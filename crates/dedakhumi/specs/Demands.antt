@@ -20,7 +20,8 @@ use Rattle.records.specs.Events.{eventOf}
 use Rattle.history.specs.History.{Past, after, accepted, inTable, hasEnded}
 use Rattle.table.specs.Answers.{said}
 use Rattle.table.specs.Operations.{Outcome, outcome, naming, named, started}
-use Rattle.dedakhumi.specs.Types.{Aca, Task, Event, Policy, Done, EventRead, Readable, Unreadable}
+use Rattle.rules.specs.Types.{Aca, Task, Event, Policy, Done}
+use Rattle.records.specs.declared.events.EventRead.{EventRead, the-variants.Readable, the-variants.Unreadable}
 use Rattle.dedakhumi.specs.Moves.{Move, applied, tableBy, Lent, eventsIn, readIn, opened, turnsBy, expected}
 
 abbrev pub number : List ℕ → List ℕ → List ℕ → ℕ

@@ -21,7 +21,8 @@ use Rattle.records.specs.Tables.{tableBytes, reportBytes}
 use Rattle.records.specs.Events.{eventOf}
 use Rattle.table.specs.Answers.{said, writesReport}
 use Rattle.table.specs.Operations.{Outcome, refused, outcome, named}
-use Rattle.dedakhumi.specs.Types.{Event, Command, Completion, Management, Condition, Policy, BadEvent, EventRead, Readable, Unreadable, Turn}
+use Rattle.rules.specs.Types.{Event, Command, Completion, Management, Condition, Policy, BadEvent, Turn}
+use Rattle.records.specs.declared.events.EventRead.{EventRead, the-variants.Readable, the-variants.Unreadable}
 
 pub record Move : Type 0 where
   pub event : List ℕ

@@ -1,6 +1,6 @@
 // Answers in document 01's numbers, laid out as C reads them.
-use rules::Answer;
-use rules::Turn;
+use values::Answer;
+use values::Turn;
 ghost use mathlib.Core.Path.{_≡_};
 ghost use Rattle.dedakhumi.specs.Boundary.{numbersOf, turnOf};
 

@@ -10,8 +10,9 @@ use borrow.Author.Tests.{eq-eqb}
 use Rattle.laws.specs.Lists.{first}
 use Rattle.laws.proofs.Bools.{and-true, and-on, and-off, not-both, cases, split}
 use Rattle.laws.proofs.Lists.{first-passes}
-use Rattle.history.specs.Types.{Attribute, Aca, Task, Finish, Good, CheckCondition, Function, AbortTask, AbortTaskSet, ClearTaskSet, ClearAca, LogicalUnitReset, Unknown, Happening, PowerOn, HardReset, NexusLoss, Event, Command, Completion, Management, Condition, Allegiance, Clear, Faulted, Header, Fate, Change, NexusAboveSeven, Ruling, Keeps, Changes}
-use Rattle.rules.specs.Tasks.{isAca, isEnabled, same, named, turnOf, isNamed, runAfter}
+use Rattle.rules.specs.Types.{Attribute, Aca, Task, Finish, Good, CheckCondition, Function, AbortTask, AbortTaskSet, ClearTaskSet, ClearAca, LogicalUnitReset, Unknown, Happening, PowerOn, HardReset, NexusLoss, Event, Command, Completion, Management, Condition, Allegiance, Clear, Faulted, Header, Fate, Change, NexusAboveSeven, Ruling, Keeps, Changes}
+use Rattle.values.specs.Headers.{runAfter}
+use Rattle.rules.specs.Tasks.{isAca, isEnabled, same, named, turnOf, isNamed}
 use Rattle.rules.specs.Rulings.{State, isClear, turn, fateOf, answerOf}
 use Rattle.rules.specs.Rules.{finish, clearing, manage, happen, ruling}
 use Rattle.rules.specs.Well.{statesFit}

@@ -4,7 +4,7 @@ use mathlib.Core.Bool.{Bool, true, false}
 use mathlib.Core.Path.{_≡_, refl}
 use mathlib.Core.List.{List, [], _∷_, _++_}
 use lib.ListN.{length}
-use Rattle.history.specs.Types.{Attribute, Simple, HeadOfQueue, Ordered, Aca, Dormant, Enabled, Blocked, Task, Known, Event, Command, Completion, Finish, Good, CheckCondition, EndNone, Policy, Allegiance, Clear, Faulted}
+use Rattle.rules.specs.Types.{Attribute, Simple, HeadOfQueue, Ordered, Aca, Dormant, Enabled, Blocked, Task, Known, Event, Command, Completion, Finish, Good, CheckCondition, EndNone, Policy, Allegiance, Clear, Faulted}
 use Rattle.rules.specs.Tasks.{named}
 use Rattle.rules.specs.Rulings.{State, fresh}
 use Rattle.rules.specs.Rules.{newTask, enter, complete, manage, happen, ruleFor, ruling, answer}

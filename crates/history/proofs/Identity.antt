@@ -11,7 +11,7 @@ use borrow.Author.Tests.{leb-false, lt-leb}
 use Rattle.laws.specs.Lists.{any}
 use Rattle.laws.proofs.Bools.{or-false}
 use Rattle.laws.proofs.Lists.{any-append, any-less, map-append, map-fuse}
-use Rattle.history.specs.Types.{Simple, Dormant, Task, Event, Policy, Fate, Stays, Ends, Ended, Ruling, Keeps, Changes}
+use Rattle.rules.specs.Types.{Simple, Dormant, Task, Event, Policy, Fate, Stays, Ends, Ended, Ruling, Keeps, Changes}
 use Rattle.rules.specs.Tasks.{withState}
 use Rattle.rules.specs.Rulings.{fresh, kept, lost, fateOf, newcomers, endedFrom}
 use Rattle.rules.specs.Rules.{ruling}

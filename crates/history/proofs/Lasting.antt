@@ -8,7 +8,7 @@ use borrow.Author.Tests.{not-true}
 use Rattle.laws.specs.Lists.{any}
 use Rattle.laws.proofs.Bools.{not-both, split}
 use Rattle.laws.proofs.Lists.{any-never}
-use Rattle.history.specs.Types.{Attribute, Aca, Enabled, Task, Event, Policy, Allegiance, Clear, Faulted, Ruling, Keeps, Changes}
+use Rattle.rules.specs.Types.{Attribute, Aca, Enabled, Task, Event, Policy, Allegiance, Clear, Faulted, Ruling, Keeps, Changes}
 use Rattle.rules.specs.Tasks.{isAca, holdsBack}
 use Rattle.rules.specs.Rulings.{State, kept, fateOf}
 use Rattle.rules.specs.Rules.{ruling}

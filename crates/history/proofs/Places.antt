@@ -10,7 +10,7 @@ use borrow.Author.Tests.{eq-eqb}
 use Rattle.laws.specs.Lists.{one-if, any, count}
 use Rattle.laws.proofs.Bools.{not-both, split, one-both}
 use Rattle.laws.proofs.Lists.{count-append}
-use Rattle.history.specs.Types.{Attribute, Task, Event, Allegiance, Clear, Faulted, Fate, Stays, Ends, Ruling, Keeps, Changes}
+use Rattle.rules.specs.Types.{Attribute, Task, Event, Allegiance, Clear, Faulted, Fate, Stays, Ends, Ruling, Keeps, Changes}
 use Rattle.rules.specs.Tasks.{isHead, settleFrom, restate}
 use Rattle.rules.specs.Rulings.{kept, lost, fateOf, newcomers, joinsOf}
 use Rattle.rules.specs.Rules.{ruling}

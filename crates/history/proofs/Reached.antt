@@ -1,6 +1,6 @@
 -- Every state that is reached is well formed.
 use mathlib.Core.List.{List, [], _∷_}
-use Rattle.history.specs.Types.{Event, Policy}
+use Rattle.rules.specs.Types.{Event, Policy}
 use Rattle.rules.specs.Rulings.{fresh}
 use Rattle.rules.specs.Well.{WellFormed}
 use Rattle.rules.proofs.WellKept.{Tested, tested-ruling, tested-fresh}

@@ -11,8 +11,9 @@ use borrow.Author.Tests.{lt-ltb}
 use Rattle.laws.specs.Lists.{one-if, count}
 use Rattle.laws.proofs.Bools.{and-true, not-both, split, one-both}
 use Rattle.laws.proofs.Lists.{count-append, first-passes}
-use Rattle.history.specs.Types.{Attribute, Simple, HeadOfQueue, Ordered, Aca, Task, Event, Policy, Fate, Change, Ruling, Keeps, Changes}
-use Rattle.rules.specs.Tasks.{isHead, enabledHead, runAfter}
+use Rattle.rules.specs.Types.{Attribute, Simple, HeadOfQueue, Ordered, Aca, Task, Event, Policy, Fate, Change, Ruling, Keeps, Changes}
+use Rattle.values.specs.Headers.{runAfter}
+use Rattle.rules.specs.Tasks.{isHead, enabledHead}
 use Rattle.rules.specs.Rulings.{State, kept, fateOf, joinsOf, answerOf, ruled}
 use Rattle.rules.specs.Rules.{ruling, answer}
 use Rattle.rules.specs.Well.{settled}

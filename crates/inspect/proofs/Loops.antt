@@ -16,7 +16,8 @@ use Rattle.rules.specs.Tasks.{nexuses}
 use Rattle.records.specs.Records.{nexusSize, taskSize, taskFrom, taskFits, nexusFits}
 use Rattle.records.specs.Tables.{nexusesAt, tasksAt, tasksFrom, nexusesFit}
 use Rattle.decide.specs.Walks.{behindBy, fitsBy}
-use Rattle.inspect.specs.Types.{Allegiance, Older}
+use Rattle.rules.specs.Types.{Allegiance}
+use Rattle.decide.specs.declared.states.Older.{Older}
 use Rattle.inspect.specs.Tests.{usedFit, keyOf, keysFrom}
 
 -- what hangs on the records from the i-th on hangs on that one and those behind it

@@ -20,7 +20,8 @@ use Rattle.records.specs.Tables.{Bytes, tasksFrom, pendingsFrom, stateOf, nexus
 use Rattle.records.proofs.Good.{length-tasks-from, length-pendings-from, header-fields, bytes-drop}
 use Rattle.decide.specs.Walks.{noOlder, behindBy, fitsBy, fitBy}
 use Rattle.decide.proofs.Walks.{fit-walk}
-use Rattle.inspect.specs.Types.{Task, Allegiance, Clear, Faulted, Older}
+use Rattle.rules.specs.Types.{Task, Allegiance, Clear, Faulted}
+use Rattle.decide.specs.declared.states.Older.{Older}
 use Rattle.inspect.specs.Tests.{usedFit, keyOf, keysFrom, apart, tableTest}
 
 -- Tests joined -----------------------------------------------------------------------------------------------------------------------------

@@ -21,7 +21,8 @@ use Rattle.records.specs.Records.{headSize, taskSize, headerFrom, headerFits, t
 use Rattle.records.specs.Tables.{tableSize, nexusesAt, tasksAt, countIn, nexusesFit, unusedFit}
 use Rattle.decide.specs.Walks.{noOlder, behindBy, fitsBy}
 use Rattle.decide.specs.Searches.{foundIn, chosen, turnFound}
-use Rattle.inspect.specs.Types.{Task, Allegiance, Clear, Faulted, Older, Turn}
+use Rattle.rules.specs.Types.{Task, Allegiance, Clear, Faulted, Turn}
+use Rattle.decide.specs.declared.states.Older.{Older}
 
 unfoldable pub usedFit : ℕ → Allegiance → Older → List ℕ → Bool
 usedFit zero aca o l = true

@@ -4,7 +4,7 @@ use mathlib.Core.Path.{_≡_, refl}
 use mathlib.Core.Option.{Option, none, some}
 use lib.Dec.{eqb}
 use Rattle.rules.specs.Rules.{onlyIf, ended, asksAca, check2, enter}
-use Rattle.judge.specs.Types.{Entry, Allegiance, Clear, Faulted, Header, Pending, Keeps}
+use Rattle.rules.specs.Types.{Entry, Allegiance, Clear, Faulted, Header, Pending, Keeps}
 use Rattle.judge.specs.Entries.{heldOff, heldStatus, checksPastAca}
 
 check2-is :

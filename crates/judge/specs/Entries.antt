@@ -11,7 +11,7 @@ use mathlib.Core.List.{List, [], _∷_}
 use lib.Dec.{eqb}
 use Rattle.rules.specs.Bits.{top, senseFor}
 use Rattle.rules.specs.Rules.{check3, check4, check5, accepting, decide}
-use Rattle.judge.specs.Types.{Entry, Allegiance, Clear, Faulted, Header, Pending, Bit, NoBit, EndedAtEntry, Done, Nobody, NoTask, Reported, Ruling, Changes}
+use Rattle.rules.specs.Types.{Entry, Allegiance, Clear, Faulted, Header, Pending, Bit, NoBit, EndedAtEntry, Done, Nobody, NoTask, Reported, Ruling, Changes}
 
 abbrev pub heldOff : Allegiance → ℕ → Bool → Bool → Bool
 heldOff Clear n asks has = false

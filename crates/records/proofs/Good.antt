@@ -18,7 +18,7 @@ use Rattle.rules.specs.Rulings.{State}
 use Rattle.rules.specs.Well.{WellFormed, wellFormed}
 use Rattle.rules.proofs.WellKept.{Tested, to-tested}
 use Rattle.rules.proofs.WellSays.{well-formed-says, says-tested}
-use Rattle.records.specs.Types.{Task, Pending, Header}
+use Rattle.rules.specs.Types.{Task, Pending, Header}
 use Rattle.records.specs.Numbers.{attributeNumber, attributeFits, stateNumber, stateFits, policyNumber, policyFits, pendingNumber, pendingFits, acaNumber, flag}
 use Rattle.records.specs.Records.{headerBytes, headerFrom, headerFits, nexusBytes, nexusRestFits, nexusFits, pendingIn, taskBytes, taskFrom, taskRestFits, taskFits, unusedBytes, unusedFits, marked}
 use Rattle.records.specs.Tables.{Bytes, tasksFrom, pendingsFrom, stateOf, nexusRecords, unusedRecords, taskRecords, tableBytes, GoodTable, nexusesFit, tasksFit, unusedFit, goodTable}

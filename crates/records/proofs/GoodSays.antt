@@ -18,7 +18,7 @@ use Rattle.rules.specs.Rulings.{State}
 use Rattle.rules.specs.Well.{WellFormed, wellFormed, faultFits, tooHigh}
 use Rattle.rules.proofs.WellKept.{Tested, from-tested}
 use Rattle.rules.proofs.WellSays.{well-formed-says, says-tested}
-use Rattle.records.specs.Types.{Attribute, Simple, HeadOfQueue, Ordered, Aca, TaskState, Dormant, Enabled, Blocked, Task, Qerr, EndNone, EndAll, EndNexus, Policy, Allegiance, Clear, Faulted, Pending, Header}
+use Rattle.rules.specs.Types.{Attribute, Simple, HeadOfQueue, Ordered, Aca, TaskState, Dormant, Enabled, Blocked, Task, Qerr, EndNone, EndAll, EndNexus, Policy, Allegiance, Clear, Faulted, Pending, Header}
 use Rattle.records.specs.Numbers.{flag, attributeNumber, attributeFits, stateNumber, stateFits, acaNumber, policyNumber, policyFits, pendingNumber, pendingFits}
 use Rattle.records.specs.Records.{headerBytes, headerFits, nexusBytes, nexusFits, taskBytes, taskFits, unusedBytes, unusedFits}
 use Rattle.records.specs.Tables.{Bytes, stateOf, nexusRecords, unusedRecords, taskRecords, tableBytes, GoodTable, nexusesFit, tasksFit, unusedFit, goodTable}

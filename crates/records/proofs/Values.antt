@@ -7,7 +7,7 @@ use native.Mathlib.Nat.{div-add-mod'}
 use lib.Dec.{eqb, ltb, leb}
 use borrow.Author.Tests.{eqb-true, eqb-false, eq-eqb, ne-eqb, ltb-true, leb-true}
 use Rattle.laws.proofs.Bools.{and-true, or-true, not-both, split}
-use Rattle.records.specs.Types.{Attribute, Simple, HeadOfQueue, Ordered, Aca, TaskState, Dormant, Enabled, Blocked, Qerr, EndNone, EndAll, EndNexus, Policy, Allegiance, Clear, Faulted, Pending}
+use Rattle.rules.specs.Types.{Attribute, Simple, HeadOfQueue, Ordered, Aca, TaskState, Dormant, Enabled, Blocked, Qerr, EndNone, EndAll, EndNexus, Policy, Allegiance, Clear, Faulted, Pending}
 use Rattle.records.specs.Numbers.{flag, bitOf, tagFrom, attributeNumber, attributeFits, attributeFrom, stateNumber, stateFits, stateFrom, acaNumber, acaFrom, qerrNumber, qerrFrom, policyNumber, policyFits, policyFrom, pendingNumber, pendingFits, pendingFrom}
 
 -- Tests that are computed once -------------------------------------------------------------------------------------------------------------

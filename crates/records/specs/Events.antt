@@ -7,7 +7,8 @@ use mathlib.Core.Bool.{Bool, true, false, cond, _||_, _&&_, not}
 use mathlib.Core.List.{List}
 use lib.Dec.{eqb, ltb, leb}
 use lib.ListN.{length, getD}
-use Rattle.records.specs.Types.{Asked, Known, NoneOfFour, Finish, Good, CheckCondition, Function, AbortTask, AbortTaskSet, ClearTaskSet, ClearAca, LogicalUnitReset, Unknown, Happening, PowerOn, HardReset, NexusLoss, Event, Command, Completion, Management, Condition, EventRead, Readable, Unreadable}
+use Rattle.rules.specs.Types.{Asked, Known, NoneOfFour, Finish, Good, CheckCondition, Function, AbortTask, AbortTaskSet, ClearTaskSet, ClearAca, LogicalUnitReset, Unknown, Happening, PowerOn, HardReset, NexusLoss, Event, Command, Completion, Management, Condition}
+use Rattle.records.specs.Types.{EventRead, Readable, Unreadable}
 use Rattle.records.specs.Numbers.{bitOf, tagFrom, attributeFits, attributeFrom}
 use Rattle.records.specs.Records.{marked}
 

@@ -8,7 +8,7 @@
 use Prim.Native.Nat.{ℕ, suc, _+_, _-_, _*_, _/_, _%_}
 use mathlib.Core.Bool.{Bool, true, false, cond, _||_, _&&_, not}
 use lib.Dec.{eqb, ltb, leb}
-use Rattle.records.specs.Types.{Attribute, Simple, HeadOfQueue, Ordered, Aca, TaskState, Dormant, Enabled, Blocked, Qerr, EndNone, EndAll, EndNexus, Policy, Allegiance, Clear, Faulted, Pending}
+use Rattle.rules.specs.Types.{Attribute, Simple, HeadOfQueue, Ordered, Aca, TaskState, Dormant, Enabled, Blocked, Qerr, EndNone, EndAll, EndNexus, Policy, Allegiance, Clear, Faulted, Pending}
 
 abbrev pub flag : Bool → ℕ
 flag true = 1

@@ -10,7 +10,7 @@ use mathlib.Core.Bool.{Bool, true, false, _&&_}
 use mathlib.Core.List.{List, [], _∷_}
 use lib.Dec.{eqb, ltb, leb}
 use lib.ListN.{getD}
-use Rattle.records.specs.Types.{Task, Header, Pending, Ended}
+use Rattle.rules.specs.Types.{Task, Header, Pending, Ended}
 use Rattle.records.specs.Numbers.{flag, tagFrom, attributeNumber, attributeFits, attributeFrom, stateNumber, stateFits, stateFrom, acaNumber, acaFrom, policyNumber, policyFits, policyFrom, pendingNumber, pendingFits, pendingFrom}
 
 abbrev pub headSize : ℕ

@@ -23,7 +23,7 @@ use Rattle.rules.specs.Tasks.{places, nexuses}
 use Rattle.rules.specs.Rulings.{State}
 use Rattle.rules.specs.Well.{WellFormed, wellFormed}
 use Rattle.records.specs.Records.{headSize, nexusSize, taskSize, headerBytes, headerFrom, headerFits, nexusBytes, pendingIn, nexusFits, taskBytes, taskFrom, taskFits, unusedBytes, unusedFits, endedBytes}
-use Rattle.records.specs.Types.{Task, Pending, Ended}
+use Rattle.rules.specs.Types.{Task, Pending, Ended}
 
 abbrev pub Bytes : List ℕ → Type 0
 Bytes l = (i : ℕ) → getD l i 0 < 256

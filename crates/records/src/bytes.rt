@@ -1,5 +1,5 @@
 // Eight bytes at a place of a slice, and numbers in bytes.
-use rules::Tag;
+use values::Tag;
 ghost use mathlib.Core.Path.{_≡_};
 ghost use mathlib.Core.Bool.{Bool};
 ghost use Prim.Native.Nat.{_+_, _≤_, _/_, _%_};

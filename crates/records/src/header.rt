@@ -2,10 +2,10 @@
 use crate::bytes::bit_of;
 use crate::bytes::flag_byte;
 use crate::bytes::is_marked;
-use rules::Allegiance;
-use rules::Header;
-use rules::Policy;
-use rules::Qerr;
+use values::Allegiance;
+use values::Header;
+use values::Policy;
+use values::Qerr;
 ghost use mathlib.Core.Path.{_≡_};
 ghost use Prim.Native.Nat.{_+_, _≤_};
 ghost use Rattle.rules.specs.Well.{faultFits};

@@ -2,7 +2,7 @@
 use crate::bytes::bit_of;
 use crate::bytes::flag_byte;
 use crate::bytes::is_marked;
-use rules::Pending;
+use values::Pending;
 ghost use mathlib.Core.Path.{_≡_};
 ghost use Rattle.records.specs.Numbers.{pendingNumber, pendingFrom};
 ghost use Rattle.records.specs.Records.{nexusBytes, nexusRestFits, nexusFits};

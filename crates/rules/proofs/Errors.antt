@@ -12,7 +12,8 @@ use Rattle.laws.specs.Lists.{one-if, any, count, first}
 use Rattle.laws.proofs.Bools.{not-both, cases}
 use Rattle.laws.proofs.Lists.{any-never}
 use Rattle.rules.specs.Types.{Attribute, Simple, HeadOfQueue, Ordered, Aca, TaskState, Dormant, Enabled, Blocked, Task, Finish, Good, CheckCondition, Event, Management, Condition, Function, AbortTask, AbortTaskSet, PowerOn, Allegiance, Clear, Faulted, Header, Pending, Bit, PowerBit, HardBit, UnitBit, LossBit, ClearedBit, Top, NoBit, Highest, Fate, Stays, Ends, Sweep, OneTask, AllTasks, FailedTask, Policy, EndAll}
-use Rattle.rules.specs.Tasks.{nexuses, isPlain, same, withState, eligible, enabledIf, settleFrom, blockedIfEnabled, restate, runAfter}
+use Rattle.values.specs.Headers.{runAfter}
+use Rattle.rules.specs.Tasks.{nexuses, isPlain, same, withState, eligible, enabledIf, settleFrom, blockedIfEnabled, restate}
 use Rattle.rules.specs.Bits.{noPending, top, afterPowerOn}
 use Rattle.rules.specs.Rulings.{State, fresh, kept, endIf, fateOf, tellLosersFrom, ruled}
 use Rattle.rules.specs.Rules.{finish, manage, happen, ruleFor, ruling, step}

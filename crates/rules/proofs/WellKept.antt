@@ -12,9 +12,10 @@ use Rattle.laws.specs.Lists.{any, first}
 use Rattle.laws.proofs.Bools.{and-true, and-off, not-both, cases}
 use Rattle.laws.proofs.Lists.{any-append, any-less, any-never, first-passes}
 use Rattle.rules.specs.Types.{Attribute, Simple, HeadOfQueue, Ordered, Aca, Enabled, Task, Asked, Known, NoneOfFour, Entry, Finish, Good, CheckCondition, Function, AbortTask, AbortTaskSet, ClearTaskSet, ClearAca, LogicalUnitReset, Unknown, Happening, PowerOn, HardReset, NexusLoss, Event, Command, Completion, Management, Condition, Policy, Qerr, Allegiance, Clear, Faulted, Header, Pending, Fate, Ends, Sweep, AcaTask, AllTasks, FailedTask, NexusTasks, Notice, Quiet, Reported, OthersLost, NexusLost, UnitWasReset, HardWasReset, PowerCameOn, NoTask, Change, Answer, Done, Ruling, Keeps, Changes}
-use Rattle.rules.specs.Tasks.{isAca, isEnabled, acaTask, ofNexus, same, restate, isNamed, runAfter}
+use Rattle.values.specs.Headers.{runAfter, withAca, withRun}
+use Rattle.rules.specs.Tasks.{isAca, isEnabled, acaTask, ofNexus, same, restate, isNamed}
 use Rattle.rules.specs.Bits.{afterPowerOn, afterHardReset, afterUnitReset}
-use Rattle.rules.specs.Rulings.{State, withAca, withRun, turn, fresh, endIf, kept, lost, fateByQerr, fateOf, newcomers, tellLosersFrom, noted, ruled}
+use Rattle.rules.specs.Rulings.{State, turn, fresh, endIf, kept, lost, fateByQerr, fateOf, newcomers, tellLosersFrom, noted, ruled}
 use Rattle.rules.specs.Rules.{sweeping, asksAca, check2, badAttribute, attributeOf, newTask, accepting, enter, acaAfter, finish, resetting, clearing, manage, acaWithout, happen, ruling, step}
 use Rattle.rules.specs.Well.{held, statesFit, faultFits, distinct, tooHigh, wellFormed}
 use Rattle.rules.proofs.Fates.{isEnds, any-kept, length-split, gone}

@@ -17,9 +17,10 @@ use mathlib.Core.Option.{Option, none, some}
 use lib.Dec.{eqb, ltb, leb}
 use Rattle.laws.specs.Lists.{any, first}
 use Rattle.rules.specs.Types.{Attribute, Simple, Enabled, Task, Asked, Known, NoneOfFour, Entry, Finish, Good, CheckCondition, Function, AbortTask, AbortTaskSet, ClearTaskSet, ClearAca, LogicalUnitReset, Unknown, Happening, PowerOn, HardReset, NexusLoss, Event, Command, Completion, Management, Condition, Policy, Qerr, EndNone, EndAll, EndNexus, Allegiance, Clear, Faulted, Header, Pending, Bit, Top, NoBit, Highest, Ended, Sweep, Nobody, OneTask, NexusTasks, AcaTask, AllTasks, ClearedBy, FailedTask, Notice, Quiet, Reported, OthersLost, NexusLost, UnitWasReset, HardWasReset, PowerCameOn, NoTask, NewTask, Change, Answer, Done, NexusAboveSeven, NoSuchTask, NotEnabled, EndedAtEntry, Rejected, Ruling, Keeps, Changes}
-use Rattle.rules.specs.Tasks.{places, nexuses, isAca, isEnabled, acaTask, same, isNamed, runAfter}
+use Rattle.values.specs.Headers.{withAca, withRun, runNext}
+use Rattle.rules.specs.Tasks.{places, nexuses, isAca, isEnabled, acaTask, same, isNamed}
 use Rattle.rules.specs.Bits.{top, senseFor}
-use Rattle.rules.specs.Rulings.{State, withAca, withRun, isClear, pendingOf, turn, ruled, answerOf, reportOf}
+use Rattle.rules.specs.Rulings.{State, isClear, pendingOf, turn, ruled, answerOf, reportOf}
 
 -- tasks end by a sweep, and nothing else changes
 abbrev pub sweeping : Header → Sweep → Change
@@ -113,10 +114,6 @@ abbrev pub toldByQerr : Qerr → Bool → ℕ → Notice
 toldByQerr EndNone tas n = Quiet
 toldByQerr EndAll tas n = toldWithoutTas tas n
 toldByQerr EndNexus tas n = Quiet
-
--- "An accepted completion of the named task sets run .. Other completions .. leave it." ("Turn rule")
-abbrev pub runNext : Header → Attribute → Bool → Header
-runNext h a named = withRun h (cond named (runAfter a (h .run)) (h .run))
 
 -- "Then, NACA 1: ACA for that nexus. NACA 0: no new ACA, and if the task had attribute ACA the old one is cleared."
 abbrev pub acaAfter : Task → Allegiance → Allegiance

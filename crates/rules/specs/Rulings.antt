@@ -2,7 +2,6 @@
 -- Document 01, "Bytes" and "Ends, ACA and aborts".
 --
 --   State                := header, the pending bits of nexus 0 to 7, the tasks from oldest to youngest
---   withCount, withAca, withRun h x  := the header with another count, allegiance, run
 --   isClear a, pendingOf s n  := no ACA is in effect; the pending bits of nexus n
 --   turn s               := whose turn it is
 --   fresh p              := a fresh set under the policy p
@@ -19,6 +18,7 @@ use mathlib.Core.List.{List, [], _∷_, _++_, map}
 use lib.Dec.{eqb}
 use lib.ListN.{length, getD, set, replicate}
 use Rattle.laws.specs.Lists.{any}
+use Rattle.values.specs.Headers.{withCount}
 use Rattle.rules.specs.Types.{Task, Policy, Qerr, EndNone, EndAll, EndNexus, Allegiance, Clear, Faulted, Header, Pending, Turn, Fate, Stays, Ends, Ended, Sweep, Nobody, OneTask, NexusTasks, AcaTask, AllTasks, ClearedBy, FailedTask, Notice, Quiet, Reported, OthersLost, NexusLost, UnitWasReset, HardWasReset, PowerCameOn, Joins, NoTask, NewTask, Change, Answer, Ruling, Keeps, Changes}
 use Rattle.rules.specs.Tasks.{nexuses, acaTask, ofNexus, same, restate, named, turnOf}
 use Rattle.rules.specs.Bits.{noPending, without, afterPowerOn, afterHardReset, afterUnitReset, afterNexusLoss, afterCleared}
@@ -27,15 +27,6 @@ pub record State : Type 0 where
   pub header : Header
   pub pending : List Pending
   pub tasks : List Task
-
-abbrev pub withCount : Header → ℕ → Header
-withCount h n = record { policy = h .policy; count = n; aca = h .aca; run = h .run }
-
-abbrev pub withAca : Header → Allegiance → Header
-withAca h a = record { policy = h .policy; count = h .count; aca = a; run = h .run }
-
-abbrev pub withRun : Header → ℕ → Header
-withRun h r = record { policy = h .policy; count = h .count; aca = h .aca; run = r }
 
 abbrev pub isClear : Allegiance → Bool
 isClear Clear = true

@@ -1,7 +1,7 @@
 -- Tasks: which are eligible, their states after an event, and whose turn it is.
--- Document 01, "Bytes" (attributes, states, Eligible), "Ends, ACA and aborts" (the states) and "Turn rule"; 002, clause 8.6.
+-- Document 01, "Bytes" (attributes, states, Eligible), "Ends, ACA and aborts" (the states) and "Turn rule" (what a turn does to run is in values/specs/Headers); 002, clause 8.6.
 --
---   places, nexuses, mostRun    := 64 tasks, 8 nexuses, 4 HEAD OF QUEUE turns in a row while another task is enabled
+--   places, nexuses             := 64 tasks, 8 nexuses
 --   isHead, isPlain, isAca a    := the attribute is HEAD OF QUEUE; SIMPLE or ORDERED; ACA
 --   isEnabled st, enabledTask t := the state, or the task, is enabled
 --   acaTask, enabledHead, enabledPlain t   := the task has attribute ACA; is enabled and HEAD OF QUEUE; is enabled and SIMPLE or ORDERED
@@ -12,13 +12,13 @@
 --   restate a b ts              := the states after an event, by the allegiance before it and after it
 --   named aca run ts            := the task that the turn rule names, or none
 --   turnOf o, isNamed n g turn  := its name; whether that is the name of the task of nexus n and tag g
---   runAfter a run              := run after a turn of a task with attribute a
-use Prim.Native.Nat.{ℕ, _+_, min}
+use Prim.Native.Nat.{ℕ}
 use mathlib.Core.Bool.{Bool, true, false, cond, _||_, _&&_, not}
 use mathlib.Core.List.{List, [], _∷_, map}
 use mathlib.Core.Option.{Option, none, some}
 use lib.Dec.{eqb, ltb}
 use Rattle.laws.specs.Lists.{any, first}
+use Rattle.values.specs.Headers.{mostRun}
 use Rattle.rules.specs.Types.{Attribute, Simple, HeadOfQueue, Ordered, Aca, TaskState, Dormant, Enabled, Blocked, Task, Allegiance, Clear, Faulted, Turn, Nothing, Names}
 
 abbrev pub places : ℕ
@@ -26,9 +26,6 @@ places = 64
 
 abbrev pub nexuses : ℕ
 nexuses = 8
-
-abbrev pub mostRun : ℕ
-mostRun = 4
 
 abbrev pub isHead : Attribute → Bool
 isHead Simple = false
@@ -125,10 +122,3 @@ turnOf (some t) = Names (record { nexus = t .nexus; tag = t .tag })
 abbrev pub isNamed : ℕ → ℕ → Turn → Bool
 isNamed n g Nothing = false
 isNamed n g (Names t) = eqb (t .nexus) n && eqb (t .tag) g
-
--- "sets run to the smaller of run + 1 and 4 if HEAD OF QUEUE, to 0 if SIMPLE or ORDERED. Other completions, an ACA task's included, leave it."
-abbrev pub runAfter : Attribute → ℕ → ℕ
-runAfter HeadOfQueue run = min (run + 1) mostRun
-runAfter Simple run = 0
-runAfter Ordered run = 0
-runAfter Aca run = run

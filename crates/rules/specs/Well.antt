@@ -14,7 +14,8 @@ use lib.Dec.{eqb, ltb, leb}
 use lib.ListN.{length}
 use Rattle.laws.specs.Lists.{any, isNil}
 use Rattle.rules.specs.Types.{Attribute, Simple, HeadOfQueue, Ordered, Aca, TaskState, Dormant, Enabled, Blocked, Task, Allegiance, Clear, Faulted}
-use Rattle.rules.specs.Tasks.{places, nexuses, mostRun, isAca, same, eligible, enabledIf}
+use Rattle.values.specs.Headers.{mostRun}
+use Rattle.rules.specs.Tasks.{places, nexuses, isAca, same, eligible, enabledIf}
 use Rattle.rules.specs.Rulings.{State}
 
 abbrev pub Stands : List Task → List Task → Task → List Task → Type 0

@@ -24,7 +24,8 @@ use Rattle.records.proofs.Values.{attribute-back, state-back, pending-back}
 use Rattle.records.proofs.Written.{task-back, tasks-back, length-nexuses, length-joined, table-tasks, table-front, table-behind-header}
 use Rattle.decide.specs.Walks.{noOlder, behindBy, eligibleBy, settledBy}
 use Rattle.decide.proofs.Walks.{settled-walk}
-use Rattle.steps.specs.Types.{Task, Header, Pending, Fate, Stays, Ends, Ended, Sweep, Notice, Quiet, Reported, OthersLost, NexusLost, UnitWasReset, HardWasReset, PowerCameOn, Older, Allegiance, Clear, Faulted}
+use Rattle.rules.specs.Types.{Task, Header, Pending, Fate, Stays, Ends, Ended, Sweep, Notice, Quiet, Reported, OthersLost, NexusLost, UnitWasReset, HardWasReset, PowerCameOn, Allegiance, Clear, Faulted}
+use Rattle.decide.specs.declared.states.Older.{Older}
 use Rattle.steps.specs.Steps.{settledRecord, behindRecord, settledBytes, blockedRecord, nextPlace, blockedBytes, endsFate, goneBy, keptCount, closedBytes, notedOne, losers, notedRecord, notedBytes, endsOf}
 
 abbrev pub withTasks : State → List Task → State

@@ -11,7 +11,7 @@ use Rattle.rules.proofs.Fates.{length-split}
 use Rattle.records.specs.Records.{headerBytes, taskBytes, taskFrom, unusedBytes}
 use Rattle.records.specs.Tables.{tasksFrom, nexusRecords, unusedRecords, taskRecords, tableBytes}
 use Rattle.records.proofs.Written.{task-back, length-joined, length-nexuses, table-tasks, table-front, behind-used, table-behind-header}
-use Rattle.steps.specs.Types.{Task, Header, Fate, Stays, Ends, Sweep}
+use Rattle.rules.specs.Types.{Task, Header, Fate, Stays, Ends, Sweep}
 use Rattle.steps.specs.Steps.{endsFate, goneBy, keptCount, closedBytes, losers, endsOf}
 use Rattle.steps.proofs.Ends.{joined-append}
 use Rattle.steps.proofs.Carried.{withTasks, withHeader, tasks-of-table, tasks-changed}

@@ -12,7 +12,7 @@ use Rattle.rules.specs.Rulings.{kept, fateOf}
 use Rattle.records.specs.Records.{taskSize, taskFrom, unusedBytes}
 use Rattle.records.specs.Tables.{tasksAt, tasksFrom, unusedRecords}
 use Rattle.steps.proofs.Walks.{each-new}
-use Rattle.steps.specs.Types.{Task, Fate, Stays, Ends, Sweep}
+use Rattle.rules.specs.Types.{Task, Fate, Stays, Ends, Sweep}
 use Rattle.steps.specs.Steps.{clearedRecord, nextPlace, vacatedBytes, endsFate, goneBy, keptCount, closedBytes}
 use Rattle.steps.specs.Closing.{oneUnless, KeptAs}
 

@@ -9,7 +9,7 @@ use Rattle.laws.proofs.Records.{put-long, put-taken}
 use Rattle.rules.specs.Rulings.{fateOf, endedFrom}
 use Rattle.records.specs.Records.{taskFrom, endedBytes}
 use Rattle.records.specs.Tables.{tasksFrom, reportBytes}
-use Rattle.steps.specs.Types.{Task, Ended, Fate, Stays, Ends, Sweep}
+use Rattle.rules.specs.Types.{Task, Ended, Fate, Stays, Ends, Sweep}
 use Rattle.steps.specs.Steps.{endsOf}
 use Rattle.steps.specs.Reports.{endedAs, Listed, ListedAs}
 use Rattle.records.proofs.TaskRecords.{tasks-next, tasks-end}

@@ -9,7 +9,7 @@ use Rattle.laws.specs.Records.{recordAt}
 use Rattle.rules.specs.Rulings.{fateOf, lost}
 use Rattle.records.specs.Records.{taskFrom}
 use Rattle.records.specs.Tables.{tasksFrom}
-use Rattle.steps.specs.Types.{Task, Fate, Stays, Ends, Sweep}
+use Rattle.rules.specs.Types.{Task, Fate, Stays, Ends, Sweep}
 use Rattle.steps.specs.Steps.{endsFate, losers}
 use Rattle.records.proofs.TaskRecords.{tasks-next, tasks-end}
 

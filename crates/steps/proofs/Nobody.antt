@@ -11,7 +11,7 @@ use Rattle.rules.specs.Rulings.{fateOf, kept, endedFrom}
 use Rattle.records.specs.Records.{taskSize, taskFrom}
 use Rattle.records.specs.Tables.{tasksAt, tasksFrom}
 use Rattle.records.proofs.Good.{length-tasks-from}
-use Rattle.steps.specs.Types.{Task, Sweep, Nobody, OneTask, NexusTasks, AcaTask, AllTasks, ClearedBy, FailedTask}
+use Rattle.rules.specs.Types.{Task, Sweep, Nobody, OneTask, NexusTasks, AcaTask, AllTasks, ClearedBy, FailedTask}
 use Rattle.steps.specs.Steps.{endsNobody, goneBy, keptCount, endsOf}
 use Rattle.steps.specs.Closing.{KeptAs}
 use Rattle.steps.specs.Reports.{ListedAs}

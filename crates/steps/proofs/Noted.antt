@@ -17,7 +17,7 @@ use Rattle.records.specs.Records.{headerBytes, nexusBytes}
 use Rattle.records.specs.Tables.{nexusRecords, taskRecords, tableBytes}
 use Rattle.records.proofs.Values.{pending-back}
 use Rattle.records.proofs.Written.{table-header, table-behind-header}
-use Rattle.steps.specs.Types.{Task, Pending, Notice, Quiet, Reported, OthersLost, NexusLost, UnitWasReset, HardWasReset, PowerCameOn}
+use Rattle.rules.specs.Types.{Task, Pending, Notice, Quiet, Reported, OthersLost, NexusLost, UnitWasReset, HardWasReset, PowerCameOn}
 use Rattle.steps.specs.Steps.{notedOne, notedRecord, nextPlace, notedBytes}
 use Rattle.steps.proofs.Carried.{withPending}
 

@@ -9,7 +9,7 @@ use Rattle.laws.specs.Records.{recordAt, putAt, eachRecord}
 use Rattle.laws.proofs.Records.{record-long, record-byte, put-long, put-behind, each-step, each-end}
 use Rattle.rules.specs.Tasks.{ofNexus}
 use Rattle.records.specs.Numbers.{pendingNumber, pendingFrom}
-use Rattle.steps.specs.Types.{Task, Notice}
+use Rattle.rules.specs.Types.{Task, Notice}
 use Rattle.steps.specs.Steps.{notedOne, notedRecord, notedBytes, nextPlace}
 
 -- i of the records noted; the tasks are not touched

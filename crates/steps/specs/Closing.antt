@@ -6,7 +6,7 @@ use mathlib.Core.List.{List, _++_}
 use lib.ListN.{length, take, drop}
 use Rattle.laws.specs.Records.{keptRecords}
 use Rattle.records.specs.Records.{taskSize}
-use Rattle.steps.specs.Types.{Sweep}
+use Rattle.rules.specs.Types.{Sweep}
 use Rattle.records.specs.Tables.{tasksAt}
 use Rattle.steps.specs.Steps.{goneBy, keptCount}
 

@@ -1,4 +1,3 @@
-pub mod Types
 pub mod Steps
 pub mod Closing
 pub mod Reports

@@ -6,7 +6,7 @@ use lib.ListN.{length, take, drop}
 use Rattle.laws.specs.Records.{joined, putAt}
 use Rattle.rules.specs.Rulings.{fateOf}
 use Rattle.records.specs.Records.{taskSize, taskFrom, endedBytes}
-use Rattle.steps.specs.Types.{Task, Fate, Stays, Ends, Ended, Sweep}
+use Rattle.rules.specs.Types.{Task, Fate, Stays, Ends, Ended, Sweep}
 
 abbrev pub endedAs : Fate → Task → List Ended
 endedAs Stays t = []

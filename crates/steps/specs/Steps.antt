@@ -23,7 +23,8 @@ use Rattle.rules.specs.Rulings.{kept, lost, fateOf, endedFrom}
 use Rattle.records.specs.Numbers.{attributeFrom, stateNumber, stateFrom, pendingNumber, pendingFrom}
 use Rattle.records.specs.Records.{nexusSize, taskSize, taskFrom, unusedBytes}
 use Rattle.decide.specs.Walks.{noOlder, behindBy, eligibleBy}
-use Rattle.steps.specs.Types.{Task, Pending, Ended, Fate, Stays, Ends, Sweep, Nobody, OneTask, NexusTasks, AcaTask, AllTasks, ClearedBy, FailedTask, Notice, Quiet, Reported, OthersLost, NexusLost, UnitWasReset, HardWasReset, PowerCameOn, Older}
+use Rattle.rules.specs.Types.{Task, Pending, Ended, Fate, Stays, Ends, Sweep, Nobody, OneTask, NexusTasks, AcaTask, AllTasks, ClearedBy, FailedTask, Notice, Quiet, Reported, OthersLost, NexusLost, UnitWasReset, HardWasReset, PowerCameOn}
+use Rattle.decide.specs.declared.states.Older.{Older}
 use Rattle.records.specs.Tables.{nexusesAt, tasksAt, tasksFrom, unusedRecords}
 
 -- States -----------------------------------------------------------------------------------------------------------------------------------

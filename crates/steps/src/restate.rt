@@ -6,7 +6,7 @@ use decide::states::settled_state;
 use records::tasks::attribute_from;
 use records::tasks::state_from;
 use records::tasks::state_number;
-use rules::Allegiance;
+use values::Allegiance;
 ghost use mathlib.Core.Path.{_≡_};
 ghost use Prim.Native.Nat.{_+_, _≤_, _<_};
 ghost use lib.ListN.{length, set};

@@ -25,7 +25,7 @@ use Rattle.records.proofs.Good.{good-tested}
 use Rattle.decide.specs.Searches.{foundIn, chosen, turnFound}
 use Rattle.decide.proofs.Walks.{turn-found, chosen-named}
 use Rattle.inspect.specs.Tests.{searchedTurn}
-use Rattle.table.specs.Types.{Task, Event, Command, Completion, Management, Condition, Allegiance, Clear, Faulted, Header, Pending, Turn}
+use Rattle.rules.specs.Types.{Task, Event, Command, Completion, Management, Condition, Allegiance, Clear, Faulted, Header, Pending, Turn}
 use Rattle.table.specs.Deciding.{hasAca, pendingAt, searchedRuling}
 
 has-aca-is : (a : Allegiance) (ts : List Task) → statesFit a ts ≡ true → hasAca a ts ≡ any acaTask ts

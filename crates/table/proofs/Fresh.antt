@@ -15,7 +15,7 @@ use Rattle.records.specs.Tables.{tableSize, tasksAt, nexusRecords, unusedRecord
 use Rattle.steps.specs.Steps.{nextPlace}
 use Rattle.steps.proofs.Closes.{cleared}
 use Rattle.steps.proofs.Walks.{each-new}
-use Rattle.table.specs.Types.{Policy, Pending}
+use Rattle.rules.specs.Types.{Policy, Pending}
 use Rattle.table.specs.Fresh.{freshNexus, freshNexuses, freshTasks}
 
 abbrev powerOn : Pending

@@ -10,7 +10,9 @@ use Rattle.rules.specs.Rules.{nexusOf, ruling}
 use Rattle.rules.proofs.Cases.{ruling-high}
 use Rattle.records.specs.Tables.{stateOf, reportBytes, goodTable}
 use Rattle.records.specs.Events.{eventOf}
-use Rattle.table.specs.Types.{Event, Answer, BadTable, BadReport, BadEvent, NexusAboveSeven, EventRead, Readable, Unreadable, Applied}
+use Rattle.rules.specs.Types.{Event, Answer, BadTable, BadReport, BadEvent, NexusAboveSeven}
+use Rattle.records.specs.declared.events.EventRead.{EventRead, the-variants.Readable, the-variants.Unreadable}
+use Rattle.table.specs.Types.{Applied}
 use Rattle.table.specs.Answers.{writesReport}
 use Rattle.table.specs.Operations.{Outcome, refused, carried, onEvent, outcome, AppliedAs}
 

@@ -12,7 +12,7 @@ use Rattle.rules.specs.Tasks.{acaTask, same, isNamed}
 use Rattle.rules.specs.Rules.{enter, complete, manage, happen}
 use Rattle.records.specs.Numbers.{pendingFrom}
 use Rattle.inspect.specs.Tests.{searchedTurn}
-use Rattle.table.specs.Types.{Task, Entry, Finish, Function, Happening, Event, Command, Completion, Management, Condition, Allegiance, Clear, Faulted, Header, Pending, Ruling}
+use Rattle.rules.specs.Types.{Task, Entry, Finish, Function, Happening, Event, Command, Completion, Management, Condition, Allegiance, Clear, Faulted, Header, Pending, Ruling}
 
 abbrev pub hasAca : Allegiance → List Task → Bool
 hasAca Clear ts = false

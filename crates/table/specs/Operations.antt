@@ -16,7 +16,9 @@ use Rattle.rules.specs.Rules.{ruling}
 use Rattle.records.specs.Numbers.{policyFits, policyFrom}
 use Rattle.records.specs.Tables.{tableSize, reportSize, stateOf, tableBytes, reportBytes, goodTable}
 use Rattle.records.specs.Events.{eventOf}
-use Rattle.table.specs.Types.{Event, Answer, Done, BadTable, BadReport, BadEvent, BadPolicy, Turn, Nothing, Ruling, Keeps, Changes, EventRead, Readable, Unreadable, Applied, Naming}
+use Rattle.rules.specs.Types.{Event, Answer, Done, BadTable, BadReport, BadEvent, BadPolicy, Turn, Nothing, Ruling, Keeps, Changes}
+use Rattle.records.specs.declared.events.EventRead.{EventRead, the-variants.Readable, the-variants.Unreadable}
+use Rattle.table.specs.Types.{Applied, Naming}
 use Rattle.table.specs.Answers.{writesReport}
 
 -- Apply ------------------------------------------------------------------------------------------------------------------------------------

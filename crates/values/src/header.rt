@@ -3,9 +3,7 @@ use crate::tasks::Attribute;
 ghost use mathlib.Core.Path.{_≡_};
 ghost use mathlib.Core.Bool.{cond};
 ghost use Prim.Native.Nat.{_+_, min};
-ghost use Rattle.rules.specs.Tasks.{runAfter};
-ghost use Rattle.rules.specs.Rulings.{withCount, withAca, withRun};
-ghost use Rattle.rules.specs.Rules.{runNext};
+ghost use Rattle.values.specs.Headers.{withCount, withAca, withRun, runAfter, runNext};
 
 // QERR 00b, 01b and 11b.
 pub enum Qerr {

@@ -1,0 +1,34 @@
+-- The header with a part of it changed, and run after a turn (document 01, "Turn rule").
+--
+--   mostRun                          := 4 HEAD OF QUEUE turns in a row while another task is enabled
+--   withCount, withAca, withRun h x  := the header with another count, allegiance, run
+--   runAfter a run                   := run after a turn of a task with attribute a
+--   runNext h a named                := the header after a completion of a task with attribute a, by whether it was the named one
+use Prim.Native.Nat.{ℕ, _+_, min}
+use mathlib.Core.Bool.{Bool, cond}
+use Rattle.values.specs.declared.tasks.Attribute.{Attribute, the-variants.Simple, the-variants.HeadOfQueue, the-variants.Ordered, the-variants.Aca}
+use Rattle.values.specs.declared.header.Allegiance.{Allegiance}
+use Rattle.values.specs.declared.header.Header.{Header}
+
+abbrev pub mostRun : ℕ
+mostRun = 4
+
+abbrev pub withCount : Header → ℕ → Header
+withCount h n = record { policy = h .policy; count = n; aca = h .aca; run = h .run }
+
+abbrev pub withAca : Header → Allegiance → Header
+withAca h a = record { policy = h .policy; count = h .count; aca = a; run = h .run }
+
+abbrev pub withRun : Header → ℕ → Header
+withRun h r = record { policy = h .policy; count = h .count; aca = h .aca; run = r }
+
+-- "sets run to the smaller of run + 1 and 4 if HEAD OF QUEUE, to 0 if SIMPLE or ORDERED. Other completions, an ACA task's included, leave it."
+abbrev pub runAfter : Attribute → ℕ → ℕ
+runAfter HeadOfQueue run = min (run + 1) mostRun
+runAfter Simple run = 0
+runAfter Ordered run = 0
+runAfter Aca run = run
+
+-- "An accepted completion of the named task sets run .. Other completions .. leave it."
+abbrev pub runNext : Header → Attribute → Bool → Header
+runNext h a named = withRun h (cond named (runAfter a (h .run)) (h .run))

@@ -1,0 +1,36 @@
+// The lower layer's values: tasks, events, header, rulings. No byte of the table is known here.
+mod answers;
+mod events;
+mod header;
+mod pending;
+mod rulings;
+mod tasks;
+
+pub use answers::Answer;
+pub use answers::Sense;
+pub use events::Asked;
+pub use events::Entry;
+pub use events::Event;
+pub use events::Finish;
+pub use events::Function;
+pub use events::Happening;
+pub use header::Allegiance;
+pub use header::Header;
+pub use header::Policy;
+pub use header::Qerr;
+pub use pending::Bit;
+pub use pending::Pending;
+pub use pending::Top;
+pub use rulings::Change;
+pub use rulings::Ended;
+pub use rulings::Fate;
+pub use rulings::Joins;
+pub use rulings::Named;
+pub use rulings::Notice;
+pub use rulings::Ruling;
+pub use rulings::Sweep;
+pub use rulings::Turn;
+pub use tasks::Attribute;
+pub use tasks::Tag;
+pub use tasks::Task;
+pub use tasks::TaskState;
