@@ -195,16 +195,8 @@ static void damage_one_byte(struct session *session)
 
 void compare_damaged_tables(struct session *session)
 {
-	session_begin_part(session, "tables damaged in one byte");
-	for (unsigned long times = session_times(session, RANDOM_DAMAGES); times > 0; times--)
-		damage_one_byte(session);
-	session_begin_part(session, "tables damaged in whole records");
-	for (unsigned long times = session_times(session, RECORD_DAMAGES); times > 0; times--)
-		damage_some_records(session);
-	session_begin_part(session, "tables damaged in the header");
-	for (unsigned long times = session_times(session, HEADERS); times > 0; times--)
-		damage_header(session);
-	session_begin_part(session, "tables damaged in every byte");
-	for (unsigned long times = session_times(session, BASES); times > 0; times--)
-		damage_every_byte(session);
+	session_part(session, "tables damaged in one byte", RANDOM_DAMAGES, damage_one_byte);
+	session_part(session, "tables damaged in whole records", RECORD_DAMAGES, damage_some_records);
+	session_part(session, "tables damaged in the header", HEADERS, damage_header);
+	session_part(session, "tables damaged in every byte", BASES, damage_every_byte);
 }

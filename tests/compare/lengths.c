@@ -38,14 +38,15 @@ static void start_every_policy(struct session *session, size_t length)
 	}
 }
 
+static void start_every_length(struct session *session)
+{
+	for (size_t number = 0; number < TABLE_LENGTHS; number++)
+		start_every_policy(session, table_lengths[number]);
+}
+
 void compare_starts(struct session *session)
 {
-	unsigned long rounds = session_times(session, START_ROUNDS);
-
-	session_begin_part(session, "starts");
-	for (unsigned long round = 0; round < rounds; round++)
-		for (size_t number = 0; number < TABLE_LENGTHS; number++)
-			start_every_policy(session, table_lengths[number]);
+	session_part(session, "starts", START_ROUNDS, start_every_length);
 }
 
 /* Half of the events are good, so that only the lengths speak against them. */
@@ -78,12 +79,13 @@ static void lend_every_report_length(struct session *session, size_t table_lengt
 	}
 }
 
+static void lend_every_length(struct session *session)
+{
+	for (size_t number = 0; number < TABLE_LENGTHS; number++)
+		lend_every_report_length(session, table_lengths[number]);
+}
+
 void compare_lengths(struct session *session)
 {
-	unsigned long rounds = session_times(session, LENGTH_ROUNDS);
-
-	session_begin_part(session, "lengths");
-	for (unsigned long round = 0; round < rounds; round++)
-		for (size_t number = 0; number < TABLE_LENGTHS; number++)
-			lend_every_report_length(session, table_lengths[number]);
+	session_part(session, "lengths", LENGTH_ROUNDS, lend_every_length);
 }

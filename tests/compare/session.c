@@ -20,6 +20,13 @@ void session_begin_part(struct session *session, const char *part)
 	fflush(stdout);
 }
 
+void session_part(struct session *session, const char *part, unsigned long times, void (*once)(struct session *session))
+{
+	session_begin_part(session, part);
+	for (unsigned long left = session_times(session, times); left > 0; left--)
+		once(session);
+}
+
 struct trial *session_new_trial(struct session *session)
 {
 	struct trial *trial = &session->trial;

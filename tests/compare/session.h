@@ -18,6 +18,8 @@ struct session {
 /* How often to do what a default run does so many times. */
 unsigned long session_times(const struct session *session, unsigned long times);
 void session_begin_part(struct session *session, const char *part);
+/* A part that is one thing, which a default run does so many times. */
+void session_part(struct session *session, const char *part, unsigned long times, void (*once)(struct session *session));
 /* An empty trial with buffers of the right lengths, for the caller to fill before it opens. */
 struct trial *session_new_trial(struct session *session);
 /* The next step of the trial, 8 zero bytes over a report with some filling, for the caller to fill before it applies. */
