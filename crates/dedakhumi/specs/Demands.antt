@@ -7,22 +7,21 @@
 --   Demand3             := a task accepted with an attribute other than ACA, with k older tasks then, has ended by the 5 x (k + 1)th turn
 use Prim.Native.Nat.{ℕ, _+_, _*_, _≤_, _<_}
 use mathlib.Core.Path.{_≡_}
-use mathlib.Core.Bool.{Bool, true, false}
+use mathlib.Core.Bool.{true, false}
 use mathlib.Core.List.{List, [], _∷_, _++_}
 use mathlib.Core.Logic.{_↔_, _⊎_}
 use lib.ListN.{length, getD}
 use Rattle.rules.specs.Rulings.{turn}
 use Rattle.rules.specs.Rules.{nexusOf}
-use Rattle.rules.specs.Well.{WellFormed}
-use Rattle.records.specs.Numbers.{policyFits}
+use Rattle.records.specs.Numbers.{policyFits, policyFrom}
 use Rattle.records.specs.Tables.{GoodTable, tableBytes}
 use Rattle.records.specs.Events.{eventOf}
-use Rattle.history.specs.History.{Past, after, accepted, inTable, hasEnded}
+use Rattle.history.specs.History.{after, accepted, inTable, hasEnded}
 use Rattle.table.specs.Answers.{said}
-use Rattle.table.specs.Operations.{Outcome, outcome, naming, named, started}
+use Rattle.table.specs.Operations.{outcome, naming, named, started}
 use Rattle.rules.specs.Types.{Aca, Task, Event, Policy, Done}
-use Rattle.records.specs.declared.events.EventRead.{EventRead, the-variants.Readable, the-variants.Unreadable}
-use Rattle.dedakhumi.specs.Moves.{Move, applied, tableBy, Lent, eventsIn, readIn, opened, turnsBy, expected}
+use Rattle.records.specs.declared.events.EventRead.{the-variants.Readable, the-variants.Unreadable}
+use Rattle.dedakhumi.specs.Moves.{Move, applied, tableBy, Lent, eventsIn, opened, turnsBy, expected}
 
 abbrev pub number : List ℕ → List ℕ → List ℕ → ℕ
 number t r e = (said ((outcome t r e) .answer)) .number
@@ -53,10 +52,12 @@ pub record Demand1 : Type 0 where
 -- fixes them, and the ACA and run in the table and the answer of the naming operation are at every moment those of its rules. Each accepted command
 -- is at every moment either in the table or ended, and it ends once."
 pub record Demand2 : Type 0 where
+  -- a fresh table: 584 bytes on which start was called, whatever they were, with a policy that fits
+  pub begins : (t : List ℕ) (b : ℕ) → length t ≡ 584 → policyFits b ≡ true → (started t b) .table ≡ opened (policyFrom b)
   -- after any calls ms, and at the next call m
   pub table : (p : Policy) (ms : List Move) → Lent ms → tableBy (opened p) ms ≡ tableBytes ((after p (eventsIn ms)) .state)
-  pub naming : (p : Policy) (ms : List Move) → Lent ms
-      → named (tableBy (opened p) ms) ≡ Rattle.table.specs.Operations.naming Done (turn ((after p (eventsIn ms)) .state))
+  pub names : (p : Policy) (ms : List Move) → Lent ms
+      → named (tableBy (opened p) ms) ≡ naming Done (turn ((after p (eventsIn ms)) .state))
   pub answers : (p : Policy) (ms : List Move) (m : Move) → Lent ms → length (m .report) ≡ 512
       → applied (tableBy (opened p) ms) m ≡ expected ((after p (eventsIn ms)) .state) m
   pub well : (p : Policy) (ms : List Move) → Lent ms → GoodTable (tableBy (opened p) ms)

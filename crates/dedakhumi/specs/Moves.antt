@@ -3,13 +3,15 @@
 --   Move                := the event bytes and the report buffer that one call of apply is lent
 --   applied t m         := what that call gives on the table t
 --   tableBy t ms        := the table after the calls ms
+--   Lent ms             := each of the calls ms is lent a report buffer of 512 bytes
 --   eventsIn ms         := the events of ms that could be read
 --   opened p            := a started table under the policy p
 --   isTurnBy t m        := by what the operations answer, the call is a turn
 --   turnsBy t ms        := how many of the calls are turns
---   expected h m        := what the rules say of a call, in the history h
+--   expected s m        := what the rules say of a call, in the state s
 use Prim.Native.Nat.{ℕ, _+_}
-use mathlib.Core.Bool.{Bool, true, false, cond, _&&_}
+use mathlib.Core.Path.{_≡_}
+use mathlib.Core.Bool.{Bool, false, cond, _&&_}
 use mathlib.Core.List.{List, [], _∷_, _++_}
 use lib.Dec.{eqb}
 use lib.ListN.{length, getD}
@@ -35,10 +37,9 @@ abbrev pub tableBy : List ℕ → List Move → List ℕ
 tableBy t [] = t
 tableBy t (m ∷ ms) = tableBy ((applied t m) .table) ms
 
--- every report buffer is one of 512 bytes
 abbrev pub Lent : List Move → Type 0
 Lent [] = Unit {0}
-Lent (m ∷ ms) = (mathlib.Core.Path._≡_ (length (m .report)) 512) × Lent ms
+Lent (m ∷ ms) = (length (m .report) ≡ 512) × Lent ms
 
 abbrev pub readIn : EventRead → List Event
 readIn Unreadable = []
