@@ -1,16 +1,15 @@
 -- A change carried out step by step on the table of a state gives the table of the state that the rules say.
-use Prim.Native.Nat.{ℕ, _+_, _-_, _*_, _≤_, _<_}
+use Prim.Native.Nat.{ℕ, _+_, _≤_}
 use mathlib.Core.Bool.{true}
 use mathlib.Core.Path.{_≡_, refl, ap, sym, _∙_}
 use mathlib.Core.List.{List, [], _∷_, _++_, map, append-nil}
 use native.Mathlib.Omega.{arith}
 use lib.ListN.{length, drop, set, length-append, take-append-drop}
 use Rattle.laws.specs.Records.{recordAt, putAt}
-use Rattle.rules.specs.Tasks.{settleFrom, restate}
+use Rattle.rules.specs.Tasks.{restate}
 use Rattle.values.specs.Headers.{withCount}
 use Rattle.rules.specs.Rulings.{State, kept, lost, fateOf, newcomers, noted, tasksAfter, ruled, reportOf}
 use Rattle.rules.specs.Well.{faultFits}
-use Rattle.rules.proofs.Fates.{length-split}
 use Rattle.rules.proofs.Distinct.{length-restate}
 use Rattle.rules.proofs.WellKept.{Tested, to-tested, length-noted}
 use Rattle.records.specs.Numbers.{acaNumber}
@@ -18,10 +17,10 @@ use Rattle.records.specs.Records.{headerBytes}
 use Rattle.records.specs.Tables.{Bytes, stateOf, tableBytes, reportBytes}
 use Rattle.records.proofs.Good.{table-tested, good-tested, table-good}
 use Rattle.steps.specs.Steps.{losers, keptCount, closedBytes, endsOf}
-use Rattle.steps.proofs.Carried.{withTasks, withPending, withHeader, settled-table, blocked-table}
+use Rattle.steps.proofs.Carried.{withTasks, withPending, settled-table, blocked-table}
 use Rattle.steps.proofs.Closed.{kept-count, losers-are, ends-are, closed-table, joined-table, header-table}
 use Rattle.steps.proofs.Noted.{noted-table}
-use Rattle.rules.specs.Types.{Task, Pending, Header, Ended, Allegiance, Clear, Faulted, Bit, Fate, Notice, Quiet, Reported, OthersLost, NexusLost, UnitWasReset, HardWasReset, PowerCameOn, Joins, NoTask, NewTask, Change, Done, Changes}
+use Rattle.rules.specs.Types.{Task, Header, Ended, Allegiance, Clear, Faulted, Notice, Quiet, Reported, OthersLost, NexusLost, UnitWasReset, HardWasReset, PowerCameOn, Joins, NoTask, NewTask, Change, Done, Changes}
 use Rattle.carry.specs.Carrying.{notedUnlessQuiet, joinedBytes, restatedBytes, HeaderKept}
 use Rattle.carry.specs.Changes.{ChangeFits, ChangedAs}
 

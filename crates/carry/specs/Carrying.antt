@@ -13,7 +13,7 @@ use Rattle.laws.specs.Records.{recordAt, putAt}
 use Rattle.rules.specs.Well.{faultFits}
 use Rattle.records.specs.Records.{headerBytes, taskBytes}
 use Rattle.steps.specs.Steps.{settledBytes, blockedBytes, notedBytes}
-use Rattle.rules.specs.Types.{Task, Header, Allegiance, Clear, Faulted, Bit, Notice, Quiet, Reported, OthersLost, NexusLost, UnitWasReset, HardWasReset, PowerCameOn, Joins, NoTask, NewTask}
+use Rattle.rules.specs.Types.{Task, Header, Allegiance, Clear, Faulted, Notice, Quiet, Reported, OthersLost, NexusLost, UnitWasReset, HardWasReset, PowerCameOn, Joins, NoTask, NewTask}
 
 abbrev pub notedUnlessQuiet : Notice → List Task → List ℕ → List ℕ
 notedUnlessQuiet Quiet ls b = b

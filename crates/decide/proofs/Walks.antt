@@ -6,14 +6,13 @@ use mathlib.Core.List.{List, [], _∷_}
 use mathlib.Core.Option.{Option, none, some}
 use lib.Dec.{eqb, ltb}
 use Rattle.laws.specs.Lists.{any, first, isNil}
-use Rattle.laws.proofs.Bools.{and-false, or-on, not-both, split}
 use Rattle.rules.specs.Tasks.{holdsBack, eligible, enabledIf, withState, settleFrom, enabledTask, enabledHead, enabledPlain, named, turnOf}
 use Rattle.rules.specs.Well.{settledTask, heldTask, settled, held, statesFit}
-use Rattle.rules.proofs.Settled.{headTask, settled-cons, enabled-head, oldest-enabled}
-use Rattle.rules.proofs.Turns.{none-plain, oldest-plain}
-use Rattle.rules.specs.Types.{Attribute, Simple, HeadOfQueue, Ordered, Aca, Task, Allegiance, Clear, Faulted, Turn}
-use Rattle.decide.specs.Types.{Older, Found, Nowhere, Here}
-use Rattle.decide.specs.Walks.{noOlder, behindBy, eligibleBy, fitsBy, settledBy, fitBy}
+use Rattle.rules.proofs.Settled.{oldest-enabled}
+use Rattle.rules.proofs.Turns.{oldest-plain, else-not-head}
+use Rattle.rules.specs.Types.{Attribute, Simple, HeadOfQueue, Ordered, Aca, Task, Allegiance, Clear, Faulted}
+use Rattle.decide.specs.Types.{Older}
+use Rattle.decide.specs.Walks.{noOlder, behindBy, eligibleBy, settledBy, fitBy}
 use Rattle.decide.specs.Searches.{isHere, foundIn, taskIn, chosen, turnFound}
 
 -- Older tasks in two bits ------------------------------------------------------------------------------------------------------------------
@@ -100,12 +99,7 @@ else-found :
     → first enabledTask ts ≡ first enabledPlain ts
 else-found run [] e b = refl
 else-found run (u ∷ us) e b =
-    split (headTask u)
-    (λ y.
-    let k : any enabledHead (u ∷ us) ≡ true = rw (enabled-head [] u us (settled-cons [] u us e) y) in
-    not-both (rw (none-plain u us e y) (or-on (ltb run 4)))
-    (and-false (any enabledHead (u ∷ us)) (ltb run 4 || not (any enabledPlain (u ∷ us))) b k))
-    (λ y. rw (oldest-plain u us e y, oldest-enabled u us e))
+    rw (oldest-plain u us e (else-not-head run u us e b), oldest-enabled u us e)
 
 -- the choice of two searches is the turn rule's
 pub chosen-named :

@@ -6,11 +6,11 @@
 --   fitsBy aca o t y    := the state of the task t fits; y: it is the youngest
 --   settledBy o ts      := every eligible task enabled, every other dormant
 --   fitBy aca o ts      := every state fits
-use mathlib.Core.Bool.{Bool, true, false, _||_, _&&_, not}
+use mathlib.Core.Bool.{Bool, true, false, _&&_, not}
 use mathlib.Core.List.{List, [], _∷_}
 use lib.Dec.{eqb}
 use Rattle.laws.specs.Lists.{isNil}
-use Rattle.rules.specs.Tasks.{withState, enabledIf, holdsBack}
+use Rattle.rules.specs.Tasks.{withState, enabledIf}
 use Rattle.rules.specs.Well.{settledTask, heldTask}
 use Rattle.rules.specs.Types.{Attribute, Simple, HeadOfQueue, Ordered, Aca, Task, Allegiance, Clear, Faulted}
 use Rattle.decide.specs.Types.{Older}

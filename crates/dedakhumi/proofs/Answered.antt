@@ -1,16 +1,15 @@
 -- Which answers a ruling gives.
-use Prim.Native.Nat.{ℕ, _≤_, _<_}
-use mathlib.Core.Bool.{Bool, true, false, cond, _||_}
+use Prim.Native.Nat.{ℕ}
+use mathlib.Core.Bool.{Bool, true, _||_}
 use mathlib.Core.Path.{_≡_, refl}
 use mathlib.Core.Option.{Option, none, some}
-use lib.Dec.{eqb, ltb, leb}
-use Rattle.laws.specs.Lists.{any, first}
+use lib.Dec.{eqb, leb}
 use Rattle.laws.proofs.Bools.{cases}
-use Rattle.rules.specs.Tasks.{isEnabled, acaTask, same, isNamed}
-use Rattle.rules.specs.Rulings.{State, pendingOf, turn}
-use Rattle.rules.specs.Rules.{clearing, enter, complete, manage, happen, ruleFor}
+use Rattle.rules.specs.Tasks.{isEnabled}
+use Rattle.rules.specs.Rulings.{State}
+use Rattle.rules.specs.Rules.{clearing, complete, manage, happen, ruleFor}
 use Rattle.rules.proofs.Cases.{enter-cases}
-use Rattle.table.specs.Answers.{said, writesReport}
+use Rattle.table.specs.Answers.{said}
 use Rattle.rules.specs.Types.{Task, Finish, Function, AbortTask, AbortTaskSet, ClearTaskSet, ClearAca, LogicalUnitReset, Unknown, Happening, PowerOn, HardReset, NexusLoss, Event, Command, Completion, Management, Condition, Allegiance, Clear, Faulted, Answer, Ruling, Keeps, Changes}
 
 abbrev pub numberOf : Answer → ℕ

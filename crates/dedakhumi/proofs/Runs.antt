@@ -1,30 +1,29 @@
 -- A run over bytes is the run of the rules over the events that could be read.
-use Prim.Native.Nat.{ℕ, _+_, _≤_, _<_}
-use mathlib.Core.Bool.{Bool, true, false, cond, _&&_, _||_}
+use Prim.Native.Nat.{ℕ, _+_}
+use mathlib.Core.Bool.{Bool, true, false, cond, _&&_, _||_, and-false as and-off}
 use mathlib.Core.Path.{_≡_, refl, ap, sym, _∙_}
 use mathlib.Core.List.{List, [], _∷_, _++_, append-assoc}
 use native.Mathlib.Omega.{arith}
-use lib.Dec.{eqb, ltb, leb}
+use lib.Dec.{eqb, ltb}
 use lib.ListN.{length, getD}
-use borrow.Author.Tests.{eq-eqb, eqb-true, ne-eqb}
+use borrow.Author.Tests.{eq-eqb, ne-eqb}
 use Rattle.laws.specs.Lists.{one-if}
-use Rattle.laws.proofs.Bools.{and-off, and-on, cases}
-use Rattle.rules.specs.Tasks.{isNamed}
-use Rattle.rules.specs.Rulings.{State, isClear, turn, fresh, ruled, answerOf, reportOf}
+use Rattle.laws.proofs.Bools.{cases}
+use Rattle.rules.specs.Rulings.{State, isClear, turn, ruled, answerOf, reportOf}
 use Rattle.rules.specs.Rules.{nexusOf, ruleFor, ruling, step, answer, report}
-use Rattle.rules.proofs.WellKept.{Tested, tested-fresh}
+use Rattle.rules.proofs.WellKept.{Tested}
 use Rattle.records.specs.Numbers.{acaNumber}
-use Rattle.records.specs.Tables.{stateOf, tableBytes, reportBytes, goodTable}
+use Rattle.records.specs.Tables.{tableBytes, reportBytes}
 use Rattle.records.specs.Events.{eventOf}
-use Rattle.records.proofs.Written.{state-back-again, table-count}
+use Rattle.records.proofs.Written.{state-back-again}
 use Rattle.records.proofs.GoodSays.{good-written}
-use Rattle.history.specs.History.{Past, begin, advance, play, after, isDone, turnBy, isTurn, turns}
-use Rattle.history.proofs.Reached.{tested-advance, tested-play}
-use Rattle.table.specs.Answers.{said, writesReport}
-use Rattle.table.specs.Operations.{Outcome, refused, carried, onEvent, outcome, naming, named}
-use Rattle.rules.specs.Types.{Event, Command, Completion, Management, Condition, Policy, Allegiance, Clear, Faulted, Answer, Done, BadTable, BadReport, BadEvent, NexusAboveSeven, NoSuchTask, NotEnabled, EndedAtEntry, Rejected, BadPolicy, Ruling, Keeps, Changes, Turn}
+use Rattle.history.specs.History.{Past, advance, play, isDone, isTurn, turns}
+use Rattle.history.proofs.Reached.{tested-play}
+use Rattle.table.specs.Answers.{writesReport}
+use Rattle.table.specs.Operations.{Outcome, carried, onEvent, outcome, naming, named}
+use Rattle.rules.specs.Types.{Event, Command, Completion, Management, Condition, Allegiance, Clear, Faulted, Answer, Done, BadTable, BadReport, BadEvent, NexusAboveSeven, NoSuchTask, NotEnabled, EndedAtEntry, Rejected, BadPolicy, Ruling, Keeps, Changes}
 use Rattle.records.specs.declared.events.EventRead.{EventRead, the-variants.Readable, the-variants.Unreadable}
-use Rattle.dedakhumi.specs.Moves.{Move, applied, tableBy, Lent, readIn, eventsIn, opened, completes, isTurnBy, turnsBy, expectedOn, expected}
+use Rattle.dedakhumi.specs.Moves.{Move, applied, tableBy, Lent, readIn, eventsIn, completes, isTurnBy, turnsBy, expectedOn}
 use Rattle.dedakhumi.proofs.Answered.{numberOf, AnsweredAs, rule-answers}
 
 -- One call -----------------------------------------------------------------------------------------------------------------------------------
@@ -52,11 +51,6 @@ carried-as : (s : State) (r : List ℕ) (l : Ruling) → AnsweredAs l
     }
 carried-as s r (Keeps a) e = refl
 carried-as s r (Changes a c) e = rw (writes-7 a e)
-
-high-answers : (s : State) (r : List ℕ)
-    → carried (tableBytes s) r s (Keeps NexusAboveSeven)
-    ≡ record { answer = NexusAboveSeven; ended = 0; table = tableBytes s; report = r }
-high-answers s r = refl
 
 ruling-carried : (s : State) (r : List ℕ) (e : Event) → carried (tableBytes s) r s (ruling s e) ≡ expectedOn s r (Readable e)
 unfolding ruling step answer report

@@ -11,7 +11,7 @@ use Rattle.laws.specs.Lists.{one-if, count}
 use Rattle.laws.proofs.Bools.{one-below-suc}
 use Rattle.laws.proofs.Lists.{count-append}
 use Rattle.rules.specs.Types.{Task, Event, Policy, Fate, Ruling, Keeps, Changes}
-use Rattle.rules.specs.Rulings.{fresh, kept, lost, fateOf, newcomers, fatesOf, joinsOf}
+use Rattle.rules.specs.Rulings.{fresh, kept, lost, fateOf, newcomers, fatesOf}
 use Rattle.rules.specs.Rules.{ruling}
 use Rattle.rules.proofs.Fates.{count-split, length-kept, length-split}
 use Rattle.rules.proofs.Distinct.{length-restate}

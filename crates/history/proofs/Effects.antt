@@ -1,19 +1,18 @@
 -- What an event does to run, and that a turn ends the named task.
 use Prim.Native.Nat.{ℕ}
-use mathlib.Core.Bool.{Bool, true, false, cond, _&&_}
-use mathlib.Core.Path.{_≡_, refl, ap, sym, _∙_}
+use mathlib.Core.Bool.{Bool, true, false, cond, _&&_, and-true as and-on, and-false as and-off}
+use mathlib.Core.Path.{_≡_, refl, sym, _∙_}
 use mathlib.Core.List.{List, []}
 use mathlib.Core.Option.{Option, none, some}
 use mathlib.Core.Logic.{_⊎_, inl, inr}
 use lib.Dec.{eqb}
 use borrow.Author.Tests.{eq-eqb}
 use Rattle.laws.specs.Lists.{first}
-use Rattle.laws.proofs.Bools.{and-true, and-on, and-off, not-both, cases, split}
-use Rattle.laws.proofs.Lists.{first-passes}
-use Rattle.rules.specs.Types.{Attribute, Aca, Task, Finish, Good, CheckCondition, Function, AbortTask, AbortTaskSet, ClearTaskSet, ClearAca, LogicalUnitReset, Unknown, Happening, PowerOn, HardReset, NexusLoss, Event, Command, Completion, Management, Condition, Allegiance, Clear, Faulted, Header, Fate, Change, NexusAboveSeven, Ruling, Keeps, Changes}
+use Rattle.laws.proofs.Bools.{and-true, not-both, cases}
+use Rattle.rules.specs.Types.{Task, Finish, Good, CheckCondition, Function, AbortTask, AbortTaskSet, ClearTaskSet, ClearAca, LogicalUnitReset, Unknown, Happening, PowerOn, HardReset, NexusLoss, Event, Command, Completion, Management, Condition, Allegiance, Clear, Faulted, Header, Change, NexusAboveSeven, Ruling, Keeps, Changes}
 use Rattle.values.specs.Headers.{runAfter}
-use Rattle.rules.specs.Tasks.{isAca, isEnabled, same, named, turnOf, isNamed}
-use Rattle.rules.specs.Rulings.{State, isClear, turn, fateOf, answerOf}
+use Rattle.rules.specs.Tasks.{isEnabled, same, named, turnOf, isNamed}
+use Rattle.rules.specs.Rulings.{State, isClear, turn, fateOf}
 use Rattle.rules.specs.Rules.{finish, clearing, manage, happen, ruling}
 use Rattle.rules.specs.Well.{statesFit}
 use Rattle.rules.proofs.Fates.{isEnds}

@@ -1,16 +1,15 @@
 -- Computed: the waiting bound is met, and well-formed states with tasks, an ACA and run not 0 are reached.
-use Prim.Native.Nat.{ℕ, zero, suc, _+_, _*_}
-use mathlib.Core.Bool.{Bool, true, false}
+use Prim.Native.Nat.{ℕ, zero, suc}
+use mathlib.Core.Bool.{true, false}
 use mathlib.Core.Path.{_≡_, refl}
 use mathlib.Core.List.{List, [], _∷_, _++_}
-use lib.ListN.{length}
-use Rattle.rules.specs.Types.{Attribute, Simple, HeadOfQueue, Ordered, Aca, Dormant, Enabled, Blocked, Task, Known, Event, Command, Completion, Finish, Good, CheckCondition, EndNone, Policy, Allegiance, Clear, Faulted}
+use Rattle.rules.specs.Types.{Simple, HeadOfQueue, Ordered, Aca, Dormant, Enabled, Blocked, Event, Completion, Good, CheckCondition, EndNone, Policy, Faulted}
 use Rattle.rules.specs.Tasks.{named}
-use Rattle.rules.specs.Rulings.{State, fresh}
-use Rattle.rules.specs.Rules.{newTask, enter, complete, manage, happen, ruleFor, ruling, answer}
+use Rattle.rules.specs.Rulings.{fresh}
+use Rattle.rules.specs.Rules.{newTask, enter, complete, ruleFor, ruling, answer}
 use Rattle.rules.specs.Well.{WellFormed}
 use Rattle.rules.proofs.Accidents.{command}
-use Rattle.history.specs.History.{Past, begin, advance, play, after, hasEnded, inTable, turns}
+use Rattle.history.specs.History.{Past, advance, play, after, hasEnded, inTable, turns}
 use Rattle.history.proofs.Reached.{reached-well-formed}
 
 abbrev policy : Policy

@@ -1,8 +1,8 @@
 -- Who is who: the tasks in the table and the ended records are those of the commands accepted.
 use Prim.Native.Nat.{ℕ, suc, _+_, _≤_}
 use mathlib.Core.Path.{_≡_, refl, ap, sym, _∙_}
-use mathlib.Core.Bool.{Bool, true, false}
-use mathlib.Core.List.{List, [], _∷_, _++_, map, append-nil}
+use mathlib.Core.Bool.{false}
+use mathlib.Core.List.{List, [], _∷_, _++_, map, append-nil, map-append, map-map}
 use native.Mathlib.Omega.{arith}
 use lib.Dec.{leb}
 use lib.ListN.{length, getD, length-append, List·getD-append}
@@ -10,7 +10,7 @@ use lib.Seq.{getD-at, append-snoc}
 use borrow.Author.Tests.{leb-false, lt-leb}
 use Rattle.laws.specs.Lists.{any}
 use Rattle.laws.proofs.Bools.{or-false}
-use Rattle.laws.proofs.Lists.{any-append, any-less, map-append, map-fuse}
+use Rattle.laws.proofs.Lists.{any-append, any-less}
 use Rattle.rules.specs.Types.{Simple, Dormant, Task, Event, Policy, Fate, Stays, Ends, Ended, Ruling, Keeps, Changes}
 use Rattle.rules.specs.Tasks.{withState}
 use Rattle.rules.specs.Rulings.{fresh, kept, lost, fateOf, newcomers, endedFrom}
@@ -85,9 +85,9 @@ pub record Known (h : Past) : Type 0 where
 
 known-ids : (h : Past) → Known h → map taskId (h .state .tasks) ≡ map (λ k. taskId (look (h .roll) k)) (h .present)
 known-ids h i =
-    sym (map-fuse taskId unstated (h .state .tasks))
+    sym (map-map taskId unstated (h .state .tasks))
     ∙ ap (map taskId) (i .table)
-    ∙ map-fuse taskId (λ k. unstated (look (h .roll) k)) (h .present)
+    ∙ map-map taskId (λ k. unstated (look (h .roll) k)) (h .present)
 
 table-by :
     (h : Past) (fs : List Fate) (js : List Task) → Known h

@@ -1,7 +1,7 @@
 -- An enabled task never becomes ineligible, whatever comes.
 use Prim.Native.Nat.{ℕ, _≤_}
-use mathlib.Core.Bool.{Bool, true, false, not}
-use mathlib.Core.Path.{_≡_, refl, ap, sym, _∙_}
+use mathlib.Core.Bool.{false}
+use mathlib.Core.Path.{_≡_, refl, ap}
 use mathlib.Core.List.{List, [], _∷_, map}
 use mathlib.Core.Logic.{_⊎_, inl, inr, ⊎-elim}
 use borrow.Author.Tests.{not-true}
@@ -10,7 +10,7 @@ use Rattle.laws.proofs.Bools.{not-both, split}
 use Rattle.laws.proofs.Lists.{any-never}
 use Rattle.rules.specs.Types.{Attribute, Aca, Enabled, Task, Event, Policy, Allegiance, Clear, Faulted, Ruling, Keeps, Changes}
 use Rattle.rules.specs.Tasks.{isAca, holdsBack}
-use Rattle.rules.specs.Rulings.{State, kept, fateOf}
+use Rattle.rules.specs.Rulings.{State, fateOf}
 use Rattle.rules.specs.Rules.{ruling}
 use Rattle.rules.specs.Well.{Stands, Eligible, WellFormed}
 use Rattle.rules.proofs.Fates.{any-kept, map-kept}
@@ -18,7 +18,7 @@ use Rattle.rules.proofs.Settled.{is-aca}
 use Rattle.history.specs.History.{Past, advance, play, after, hasEnded}
 use Rattle.history.proofs.Reached.{reached-well-formed}
 use Rattle.rules.proofs.WellSays.{attributes}
-use Rattle.history.proofs.Places.{Place, place-split, Outlives, stayers, place-by}
+use Rattle.history.proofs.Places.{Place, place-split, stayers, place-by}
 use Rattle.history.proofs.Wait.{still-ended}
 
 -- the command with serial number k is in the table, and eligible

@@ -1,5 +1,5 @@
 -- A task's place: where the command with a serial number stands in the table, over an event.
-use Prim.Native.Nat.{ℕ, _+_, _≤_, _<_}
+use Prim.Native.Nat.{ℕ, _≤_}
 use mathlib.Core.Bool.{Bool, true, false, not}
 use mathlib.Core.Path.{_≡_, refl, ap, sym, _∙_}
 use mathlib.Core.List.{List, [], _∷_, _++_, map, append-nil}
@@ -7,8 +7,8 @@ use native.Mathlib.Omega.{arith}
 use lib.Dec.{eqb}
 use lib.ListN.{length}
 use borrow.Author.Tests.{eq-eqb}
-use Rattle.laws.specs.Lists.{one-if, any, count}
-use Rattle.laws.proofs.Bools.{not-both, split, one-both}
+use Rattle.laws.specs.Lists.{one-if, count}
+use Rattle.laws.proofs.Bools.{not-both, split}
 use Rattle.laws.proofs.Lists.{count-append}
 use Rattle.rules.specs.Types.{Attribute, Task, Event, Allegiance, Clear, Faulted, Fate, Stays, Ends, Ruling, Keeps, Changes}
 use Rattle.rules.specs.Tasks.{isHead, settleFrom, restate}

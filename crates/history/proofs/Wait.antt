@@ -1,17 +1,16 @@
 -- The waiting bound: demand 3 over the rules, by way of the sharper figures a + 5 (b + 1) and a + b + 1.
-use Prim.Native.Nat.{ℕ, zero, suc, _+_, _*_, _≤_, _<_, min}
+use Prim.Native.Nat.{ℕ, zero, suc, _+_, _*_, _≤_, _<_}
 use mathlib.Core.Bool.{Bool, true, false, not}
-use mathlib.Core.Path.{_≡_, refl, ap, sym, _∙_}
+use mathlib.Core.Path.{_≡_, refl, ap, _∙_}
 use mathlib.Core.List.{List, [], _∷_, _++_, map}
-use mathlib.Core.Logic.{_⊎_, inl, inr}
+use mathlib.Core.Logic.{inl, inr}
 use native.Mathlib.Omega.{arith}
-use lib.Dec.{eqb}
 use lib.ListN.{length, length-append}
 use borrow.Author.Tests.{lt-ltb}
 use Rattle.laws.specs.Lists.{one-if, count}
 use Rattle.laws.proofs.Bools.{and-true, not-both, split, one-both}
 use Rattle.laws.proofs.Lists.{count-append, first-passes}
-use Rattle.rules.specs.Types.{Attribute, Simple, HeadOfQueue, Ordered, Aca, Task, Event, Policy, Fate, Change, Ruling, Keeps, Changes}
+use Rattle.rules.specs.Types.{Attribute, Simple, HeadOfQueue, Ordered, Aca, Task, Event, Policy, Change, Ruling, Keeps, Changes}
 use Rattle.values.specs.Headers.{runAfter}
 use Rattle.rules.specs.Tasks.{isHead, enabledHead}
 use Rattle.rules.specs.Rulings.{State, kept, fateOf, joinsOf, answerOf, ruled}
@@ -21,12 +20,12 @@ use Rattle.rules.proofs.Fates.{isEnds, count-kept-le, count-falls}
 use Rattle.rules.proofs.Settled.{headTask}
 use Rattle.rules.proofs.Turns.{otherTask, turn-cases}
 use Rattle.rules.proofs.WellKept.{Tested}
-use Rattle.history.specs.History.{Past, advanceBy, advance, play, after, accepted, hasEnded, turnBy, isTurn, turns}
+use Rattle.history.specs.History.{Past, advance, play, after, accepted, hasEnded, turnBy, isTurn, turns}
 use Rattle.history.proofs.Reached.{tested-advance, tested-after}
 use Rattle.history.proofs.Conserve.{conserved, conserved-advance, conserved-play, ended-grows}
 use Rattle.history.proofs.Effects.{Quiet, TurnOf, EffectR, effect}
 use Rattle.rules.proofs.WellSays.{attributes}
-use Rattle.history.proofs.Places.{Place, place-split, Outlives, stayers, endsBy, place-by, count-attributes, entered}
+use Rattle.history.proofs.Places.{Place, place-split, stayers, endsBy, place-by, count-attributes, entered}
 
 -- The potential ----------------------------------------------------------------------------------------------------------------------------
 

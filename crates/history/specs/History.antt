@@ -15,7 +15,7 @@ use mathlib.Core.List.{List, [], _∷_, _++_}
 use lib.Dec.{eqb}
 use lib.ListN.{length}
 use Rattle.laws.specs.Lists.{one-if, count}
-use Rattle.rules.specs.Types.{Task, Entry, Finish, Function, Happening, Event, Command, Completion, Management, Condition, Policy, Ended, Ruling, Answer, Done, BadTable, BadReport, BadEvent, NexusAboveSeven, NoSuchTask, NotEnabled, EndedAtEntry, Rejected, BadPolicy}
+use Rattle.rules.specs.Types.{Task, Event, Command, Completion, Management, Condition, Policy, Ended, Ruling, Answer, Done, BadTable, BadReport, BadEvent, NexusAboveSeven, NoSuchTask, NotEnabled, EndedAtEntry, Rejected, BadPolicy}
 use Rattle.rules.specs.Tasks.{isNamed}
 use Rattle.rules.specs.Rulings.{State, isClear, turn, fresh, kept, lost, fatesOf, joinsOf, ruled, reportOf}
 use Rattle.rules.specs.Rules.{ruling, answer}

@@ -1,7 +1,7 @@
 -- The keys in their array: noted, held against each other four by four, and spare behind the last.
-use Prim.Native.Nat.{ℕ, zero, suc, _+_, _-_, _*_, _≤_, _<_}
-use mathlib.Core.Bool.{Bool, true, false, _||_}
-use mathlib.Core.Path.{_≡_, refl, sym, ap, _∙_}
+use Prim.Native.Nat.{ℕ, zero, suc, _+_, _-_, _≤_, _<_}
+use mathlib.Core.Bool.{or-assoc, _||_}
+use mathlib.Core.Path.{_≡_, refl, ap, _∙_}
 use mathlib.Core.List.{List, [], _∷_, _++_, append-assoc}
 use native.Mathlib.Numerals.{add-one}
 use native.Mathlib.Omega.{arith}
@@ -11,10 +11,10 @@ use lib.ListN.{length, getD, take, drop, set, replicate, getD-replicate, length-
 use lib.Seq.{drop-set-lt, take-suc-set, slice, slice-cons, getD-take, getD-drop, getD-append-add}
 use Rattle.laws.specs.Lists.{any}
 use Rattle.laws.proofs.Bools.{split}
-use Rattle.records.specs.Records.{taskSize, taskFrom}
+use Rattle.records.specs.Records.{taskSize}
 use Rattle.records.specs.Tables.{Bytes}
 use Rattle.records.proofs.Good.{bytes-drop}
-use Rattle.inspect.specs.Tests.{keyOf, keysFrom, spareKey, Spared}
+use Rattle.inspect.specs.Tests.{keysFrom, spareKey, Spared}
 
 pub keys-long : (n : ℕ) (l : List ℕ) → length (keysFrom n l) ≡ n
 unfolding keysFrom
@@ -57,20 +57,6 @@ slice-next l i n h room = rw (add-one, ← slice-cons i n l 0 h room)
 pub slice-past : (l : List ℕ) (i n : ℕ) → n ≤ i → slice i n l ≡ []
 slice-past l i n h = drop-of-length-le (take n l) {i = i} (simp length-take (omega arith))
 
-in-four : (a b c d r : Bool) → a || (b || (c || (d || r))) ≡ (a || (b || (c || (d || false)))) || r
-in-four true b c d r = refl
-in-four false true c d r = refl
-in-four false false true d r = refl
-in-four false false false true r = refl
-in-four false false false false r = refl
-
-pub one-of-four : (a b c d : Bool) → ((a || b) || c) || d ≡ a || (b || (c || (d || false)))
-one-of-four true b c d = refl
-one-of-four false true c d = refl
-one-of-four false false true d = refl
-one-of-four false false false true = refl
-one-of-four false false false false = refl
-
 module _ (ks : List ℕ) (n k : ℕ) (long : length ks ≡ 68) (few : n ≤ 64) (s : Spared ks n) (low : k < spareKey) where
   one : (j : ℕ) → j < 68 → any (eqb k) (slice j n ks) ≡ eqb k (getD ks j 0) || any (eqb k) (slice (j + 1) n ks)
   one j h =
@@ -89,4 +75,4 @@ module _ (ks : List ℕ) (n k : ℕ) (long : length ks ≡ 68) (few : n ≤ 64) 
       let q : j + 2 + 1 ≡ j + 3 = omega arith in
       let r : j + 3 + 1 ≡ j + 4 = omega arith in
       rw (one j (omega arith), one (j + 1) (omega arith), p, one (j + 2) (omega arith), q, one (j + 3) (omega arith), r)
-      (in-four (eqb k (getD ks j 0)) (eqb k (getD ks (j + 1) 0)) (eqb k (getD ks (j + 2) 0)) (eqb k (getD ks (j + 3) 0)) (any (eqb k) (slice (j + 4) n ks)))
+      (simp or-assoc)

@@ -1,5 +1,5 @@
 -- One turn of a loop over the records of a table: the next record, and those behind it.
-use Prim.Native.Nat.{ℕ, zero, suc, _+_, _-_, _*_, _≤_, _<_}
+use Prim.Native.Nat.{ℕ, suc, _+_, _-_, _*_, _<_}
 use mathlib.Core.Bool.{true, _&&_}
 use mathlib.Core.Path.{_≡_, refl, sym, _∙_}
 use mathlib.Core.List.{List, _∷_}
@@ -14,7 +14,7 @@ use Rattle.laws.specs.Records.{recordAt}
 use Rattle.laws.proofs.Bools.{split}
 use Rattle.rules.specs.Tasks.{nexuses}
 use Rattle.records.specs.Records.{nexusSize, taskSize, taskFrom, taskFits, nexusFits}
-use Rattle.records.specs.Tables.{nexusesAt, tasksAt, tasksFrom, nexusesFit}
+use Rattle.records.specs.Tables.{nexusesAt, tasksAt, nexusesFit}
 use Rattle.decide.specs.Walks.{behindBy, fitsBy}
 use Rattle.rules.specs.Types.{Allegiance}
 use Rattle.decide.specs.declared.states.Older.{Older}

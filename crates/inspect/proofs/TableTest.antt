@@ -1,6 +1,6 @@
 -- The test of a table in code's order is the test of a good table.
 use Prim.Native.Nat.{ℕ, zero, suc, _+_, _-_, _*_, _≤_, _<_}
-use mathlib.Core.Bool.{Bool, true, false, _||_, _&&_, not, and-assoc}
+use mathlib.Core.Bool.{Bool, true, false, _&&_, and-assoc}
 use mathlib.Core.Path.{_≡_, refl, ap, sym, _∙_}
 use mathlib.Core.List.{List, [], _∷_, map}
 use native.Mathlib.Omega.{arith}
@@ -12,15 +12,14 @@ use Rattle.laws.specs.Lists.{any, isNil}
 use Rattle.laws.specs.Records.{recordAt}
 use Rattle.laws.proofs.Bools.{and-true, or-false, split}
 use Rattle.rules.specs.Tasks.{same}
-use Rattle.rules.specs.Rulings.{State}
 use Rattle.rules.specs.Well.{statesFit, faultFits, distinct, tooHigh, wellFormed}
 use Rattle.records.specs.Numbers.{tagFrom, acaFrom}
-use Rattle.records.specs.Records.{headerFrom, headerFits, taskFrom, taskRestFits, taskFits}
-use Rattle.records.specs.Tables.{Bytes, tasksFrom, pendingsFrom, stateOf, nexusesFit, tasksFit, unusedFit, goodTable}
+use Rattle.records.specs.Records.{headerFrom, headerFits, taskFrom, taskFits}
+use Rattle.records.specs.Tables.{Bytes, tasksFrom, stateOf, nexusesFit, tasksFit, unusedFit, goodTable}
 use Rattle.records.proofs.Good.{length-tasks-from, length-pendings-from, header-fields, bytes-drop}
 use Rattle.decide.specs.Walks.{noOlder, behindBy, fitsBy, fitBy}
 use Rattle.decide.proofs.Walks.{fit-walk}
-use Rattle.rules.specs.Types.{Task, Allegiance, Clear, Faulted}
+use Rattle.rules.specs.Types.{Task, Allegiance}
 use Rattle.decide.specs.declared.states.Older.{Older}
 use Rattle.inspect.specs.Tests.{usedFit, keyOf, keysFrom, apart, tableTest}
 

@@ -1,7 +1,7 @@
 -- Check 2 at entry, as code asks it.
 use mathlib.Core.Bool.{Bool, true, false, cond, _||_, _&&_, not}
 use mathlib.Core.Path.{_≡_, refl}
-use mathlib.Core.Option.{Option, none, some}
+use mathlib.Core.Option.{some}
 use lib.Dec.{eqb}
 use Rattle.rules.specs.Rules.{onlyIf, ended, asksAca, check2, enter}
 use Rattle.rules.specs.Types.{Entry, Allegiance, Clear, Faulted, Header, Pending, Keeps}

@@ -6,8 +6,8 @@
 --   lastChecks h c           := checks 4 to 6
 --   checksPastAca h c p      := checks 3 to 6
 use Prim.Native.Nat.{ℕ}
-use mathlib.Core.Bool.{Bool, true, false, cond, _||_, _&&_, not}
-use mathlib.Core.List.{List, [], _∷_}
+use mathlib.Core.Bool.{Bool, false, cond, _||_, _&&_, not}
+use mathlib.Core.List.{[], _∷_}
 use lib.Dec.{eqb}
 use Rattle.rules.specs.Bits.{top, senseFor}
 use Rattle.rules.specs.Rules.{check3, check4, check5, accepting, decide}

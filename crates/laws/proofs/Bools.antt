@@ -1,7 +1,7 @@
 -- Laws of tests.
 use Prim.Native.Nat.{ℕ, suc, _+_}
-use mathlib.Core.Bool.{Bool, true, false, cond, _||_, _&&_, not}
-use mathlib.Core.Path.{_≡_, refl, ap, sym, _∙_}
+use mathlib.Core.Bool.{Bool, true, false, cond, _||_, _&&_, not, false≢true}
+use mathlib.Core.Path.{_≡_, refl, sym, _∙_}
 use mathlib.Core.Option.{Option, none, some}
 use native.Mathlib.Omega.{arith}
 use lib.Dec.{eqb, ltb}
@@ -16,14 +16,6 @@ pub and-false : (a b : Bool) → a && b ≡ false → a ≡ true → b ≡ false
 and-false true b e h = e
 and-false false b e h = cc
 
-pub and-on : (a : Bool) → a && true ≡ a
-and-on true = refl
-and-on false = refl
-
-pub and-off : (a : Bool) → a && false ≡ false
-and-off true = refl
-and-off false = refl
-
 pub or-false : (a b : Bool) → a || b ≡ false → (a ≡ false) × (b ≡ false)
 or-false true b e = (e, cc)
 or-false false b e = (refl, e)
@@ -32,13 +24,8 @@ pub or-true : (a b : Bool) → a || b ≡ true → a ≡ false → b ≡ true
 or-true true b e h = cc
 or-true false b e h = e
 
-pub or-on : (a : Bool) → a || true ≡ true
-or-on true = refl
-or-on false = refl
-
 pub not-both : {A : Type 0} {b : Bool} → b ≡ true → b ≡ false → A
-not-both {b = b} p q =
-    absurd (let z : _≡_ {A = ℕ} 0 1 = (let w : true ≡ false = cc in ap one-if (sym w)) in omega arith)
+not-both p q = absurd (false≢true (sym q ∙ p))
 
 -- by cases on a test, with what it says
 pub cases {ℓ} : {A : Type 0} (P : A → Type ℓ) (b : Bool) {x y : A} → (b ≡ true → P x) → (b ≡ false → P y) → P (cond b x y)

@@ -1,12 +1,12 @@
--- Laws of `any`, `count`, `first` and `map`.
-use Prim.Native.Nat.{ℕ, suc, _+_}
-use mathlib.Core.Bool.{Bool, true, false, cond, _||_}
-use mathlib.Core.Path.{_≡_, refl, ap, sym, _∙_}
-use mathlib.Core.List.{List, [], _∷_, _++_, map}
-use mathlib.Core.Option.{Option, none, some}
+-- Laws of `any`, `count` and `first`.
+use Prim.Native.Nat.{_+_}
+use mathlib.Core.Bool.{Bool, true, false, cond, or-true as or-on}
+use mathlib.Core.Path.{_≡_, refl}
+use mathlib.Core.List.{List, [], _∷_, _++_}
+use mathlib.Core.Option.{some}
 use native.Mathlib.Omega.{arith}
-use Rattle.laws.specs.Lists.{one-if, any, count, first}
-use Rattle.laws.proofs.Bools.{or-false, or-on, or-true, none-some, split}
+use Rattle.laws.specs.Lists.{any, count, first}
+use Rattle.laws.proofs.Bools.{or-false, none-some}
 
 module _ {A : Type 0} where
   pub count-append : (p : A → Bool) (xs ys : List A) → count p (xs ++ ys) ≡ count p xs + count p ys
@@ -56,12 +56,3 @@ module _ {A : Type 0} where
   first-append p (x ∷ xs) ys y h f g =
       first-cases p x (xs ++ ys) y h (λ a b. f (rw (a, b)))
       (λ a b. first-append p xs ys y b (λ c. f (rw (a, c))) (λ c d. g (rw (a, c)) d))
-
-module _ {A B : Type 0} (f : A → B) where
-  pub map-append : (xs ys : List A) → map f (xs ++ ys) ≡ map f xs ++ map f ys
-  map-append [] ys = refl
-  map-append (x ∷ xs) ys = rw (map-append xs ys)
-
-pub map-fuse : {A B C : Type 0} (g : B → C) (f : A → B) (xs : List A) → map g (map f xs) ≡ map (λ x. g (f x)) xs
-map-fuse g f [] = refl
-map-fuse g f (x ∷ xs) = rw (map-fuse g f xs)

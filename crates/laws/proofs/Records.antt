@@ -1,11 +1,11 @@
 -- Laws of records in a list of bytes, over their width.
-use Prim.Native.Nat.{ℕ, zero, suc, _+_, _*_, _≤_, _<_}
+use Prim.Native.Nat.{ℕ, suc, _+_, _≤_, _<_}
 use mathlib.Core.Bool.{Bool, true, false}
 use mathlib.Core.Path.{_≡_, refl, ap, sym, _∙_}
-use mathlib.Core.List.{List, [], _∷_, _++_, map, append-assoc, append-nil}
+use mathlib.Core.List.{List, [], _∷_, _++_, append-assoc}
 use native.Mathlib.Omega.{arith}
 use lib.ListN.{length, getD, take, drop, set, length-append, length-take, length-drop, take-append-drop}
-use lib.Seq.{drop-drop, drop-cons, drop-append-add, drop-at, take-at, take-append-le, set-append-left, drop-set-add, take-set-le, getD-drop, getD-take}
+use lib.Seq.{drop-drop, drop-append-add, drop-at, take-at, set-append-left, drop-set-add, take-set-le, getD-drop, getD-take}
 use Rattle.laws.specs.Records.{recordAt, putAt, joined, eachRecord, keepUnless, keptRecords, advanced}
 
 -- a record is as long as its width

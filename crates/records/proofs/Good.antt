@@ -1,27 +1,22 @@
 -- A good table is the writing of the state that it says, and the writing of a well-formed state is a good table.
-use Prim.Native.Nat.{ℕ, zero, suc, _+_, _-_, _*_, _/_, _%_, _≤_, _<_}
-use mathlib.Core.Bool.{Bool, true, false, _||_, _&&_}
+use Prim.Native.Nat.{ℕ, zero, suc, _+_, _-_, _*_, _≤_, _<_}
+use mathlib.Core.Bool.{true, _&&_}
 use mathlib.Core.Path.{_≡_, refl, ap, sym, _∙_}
 use mathlib.Core.List.{List, [], _∷_, _++_, append-assoc, append-nil}
-use mathlib.Core.Logic.{_↔_}
 use native.Mathlib.Omega.{arith}
 use native.Mathlib.Numerals.{add-one}
 use lib.Dec.{eqb, ltb, leb}
-use lib.ListN.{length, getD, take, drop, length-append, length-drop, length-take, take-append-drop, drop-of-length-le}
-use lib.Seq.{drop-drop, getD-drop, drop-at, take-all}
-use borrow.Author.Tests.{eqb-true, eq-eqb, ltb-true, lt-ltb, leb-true, le-leb, leb-false}
-use Rattle.laws.specs.Lists.{any}
+use lib.ListN.{length, getD, take, drop, length-drop, take-append-drop, drop-of-length-le}
+use lib.Seq.{drop-drop, getD-drop}
+use borrow.Author.Tests.{eqb-true, eq-eqb, ltb-true, leb-true}
 use Rattle.laws.specs.Records.{recordAt, joined}
-use Rattle.laws.proofs.Bools.{and-true, or-false, split}
-use Rattle.rules.specs.Tasks.{places, nexuses}
-use Rattle.rules.specs.Rulings.{State}
-use Rattle.rules.specs.Well.{WellFormed, wellFormed}
+use Rattle.laws.proofs.Bools.{and-true}
+use Rattle.rules.specs.Tasks.{nexuses}
+use Rattle.rules.specs.Well.{wellFormed}
 use Rattle.rules.proofs.WellKept.{Tested, to-tested}
-use Rattle.rules.proofs.WellSays.{well-formed-says, says-tested}
-use Rattle.rules.specs.Types.{Task, Pending, Header}
-use Rattle.records.specs.Numbers.{attributeNumber, attributeFits, stateNumber, stateFits, policyNumber, policyFits, pendingNumber, pendingFits, acaNumber, flag}
-use Rattle.records.specs.Records.{headerBytes, headerFrom, headerFits, nexusBytes, nexusRestFits, nexusFits, pendingIn, taskBytes, taskFrom, taskRestFits, taskFits, unusedBytes, unusedFits, marked}
-use Rattle.records.specs.Tables.{Bytes, tasksFrom, pendingsFrom, stateOf, nexusRecords, unusedRecords, taskRecords, tableBytes, GoodTable, nexusesFit, tasksFit, unusedFit, goodTable}
+use Rattle.records.specs.Numbers.{attributeFits, stateFits, policyFits, pendingFits}
+use Rattle.records.specs.Records.{headerBytes, headerFrom, headerFits, nexusBytes, nexusRestFits, nexusFits, pendingIn, taskBytes, taskFrom, taskRestFits, taskFits, unusedBytes, unusedFits}
+use Rattle.records.specs.Tables.{Bytes, tasksFrom, pendingsFrom, stateOf, nexusRecords, unusedRecords, tableBytes, nexusesFit, tasksFit, unusedFit, goodTable}
 use Rattle.records.proofs.Eight.{record-bytes}
 use Rattle.records.proofs.Values.{attribute-good, state-good, flag-good, aca-good, policy-good, pending-good, tag-high-good, tag-low-good}
 
@@ -109,9 +104,6 @@ module _ (l : List ℕ) (long : 8 ≤ length l) where
 
 pub bytes-drop : (l : List ℕ) (n : ℕ) → Bytes l → Bytes (drop n l)
 bytes-drop l n b i = rw (getD-drop) (b (n + i))
-
-first-rest : (l : List ℕ) → take 8 l ++ drop 8 l ≡ l
-first-rest l = take-append-drop 8 l
 
 -- one record written, and the rest of the list as it was
 one-more : (r written l rest : List ℕ) (n : ℕ) → r ≡ take 8 l → written ++ drop (8 * n) (drop 8 l) ≡ drop 8 l → rest ≡ drop (8 * suc n) l

@@ -1,30 +1,30 @@
 -- The writing of a well-formed state is a good table; and the test of a good table holds exactly if the paper's words do.
 use Prim.Native.Nat.{ℕ, zero, suc, _+_, _-_, _*_, _≤_, _<_}
-use mathlib.Core.Bool.{Bool, true, false, _&&_, not}
+use mathlib.Core.Bool.{Bool, true, false, _&&_}
 use mathlib.Core.Path.{_≡_, refl, ap, sym, _∙_}
 use mathlib.Core.List.{List, [], _∷_, _++_}
 use mathlib.Core.Logic.{_↔_}
 use native.Mathlib.Omega.{arith}
 use native.Mathlib.Numerals.{add-one}
 use native.Mathlib.Nat.{zero-add}
-use lib.Dec.{eqb, ltb, leb}
+use lib.Dec.{ltb}
 use lib.ListN.{length, getD, take, drop}
-use lib.Seq.{drop-drop, drop-at}
+use lib.Seq.{drop-drop}
 use borrow.Author.Tests.{eq-eqb, ltb-true, lt-ltb, le-leb, leb-false}
 use Rattle.laws.specs.Lists.{any}
 use Rattle.laws.specs.Records.{recordAt, joined}
 use Rattle.laws.proofs.Bools.{and-true, or-false}
 use Rattle.rules.specs.Rulings.{State}
-use Rattle.rules.specs.Well.{WellFormed, wellFormed, faultFits, tooHigh}
+use Rattle.rules.specs.Well.{WellFormed, faultFits, tooHigh}
 use Rattle.rules.proofs.WellKept.{Tested, from-tested}
 use Rattle.rules.proofs.WellSays.{well-formed-says, says-tested}
 use Rattle.rules.specs.Types.{Attribute, Simple, HeadOfQueue, Ordered, Aca, TaskState, Dormant, Enabled, Blocked, Task, Qerr, EndNone, EndAll, EndNexus, Policy, Allegiance, Clear, Faulted, Pending, Header}
-use Rattle.records.specs.Numbers.{flag, attributeNumber, attributeFits, stateNumber, stateFits, acaNumber, policyNumber, policyFits, pendingNumber, pendingFits}
-use Rattle.records.specs.Records.{headerBytes, headerFits, nexusBytes, nexusFits, taskBytes, taskFits, unusedBytes, unusedFits}
+use Rattle.records.specs.Numbers.{flag, attributeNumber, attributeFits, stateNumber, stateFits, acaNumber, policyNumber, policyFits}
+use Rattle.records.specs.Records.{headerBytes, headerFits, nexusFits, taskBytes, taskFits, unusedFits}
 use Rattle.records.specs.Tables.{Bytes, stateOf, nexusRecords, unusedRecords, taskRecords, tableBytes, GoodTable, nexusesFit, tasksFit, unusedFit, goodTable}
 use Rattle.records.proofs.Values.{pending-fits}
-use Rattle.records.proofs.Written.{state-back-again, length-joined, length-table, table-header, table-count, table-behind-header, table-tasks, behind-used}
-use Rattle.records.proofs.Good.{TableTested, table-tested, tested-table, table-good}
+use Rattle.records.proofs.Written.{state-back-again, length-table, table-header, table-count, table-behind-header, table-tasks, behind-used}
+use Rattle.records.proofs.Good.{table-tested, tested-table, table-good}
 
 -- What is written fits ---------------------------------------------------------------------------------------------------------------------
 

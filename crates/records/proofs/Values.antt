@@ -1,14 +1,14 @@
 -- A value's number gives the value back, and a good number its value's number.
-use Prim.Native.Nat.{ℕ, zero, suc, _+_, _-_, _*_, _/_, _%_, _<_, _≤_}
-use mathlib.Core.Bool.{Bool, true, false, cond, _||_, _&&_, not}
-use mathlib.Core.Path.{_≡_, refl, ap, sym, _∙_}
+use Prim.Native.Nat.{ℕ, zero, suc, _+_, _-_, _/_, _%_, _<_, _≤_}
+use mathlib.Core.Bool.{Bool, true, false, _||_, _&&_, not}
+use mathlib.Core.Path.{_≡_, refl, sym}
 use native.Mathlib.Omega.{arith}
 use native.Mathlib.Nat.{div-add-mod'}
-use lib.Dec.{eqb, ltb, leb}
-use borrow.Author.Tests.{eqb-true, eqb-false, eq-eqb, ne-eqb, ltb-true, leb-true}
+use lib.Dec.{eqb, ltb}
+use borrow.Author.Tests.{eqb-true, eqb-false, ne-eqb, ltb-true}
 use Rattle.laws.proofs.Bools.{and-true, or-true, not-both, split}
 use Rattle.rules.specs.Types.{Attribute, Simple, HeadOfQueue, Ordered, Aca, TaskState, Dormant, Enabled, Blocked, Qerr, EndNone, EndAll, EndNexus, Policy, Allegiance, Clear, Faulted, Pending}
-use Rattle.records.specs.Numbers.{flag, bitOf, tagFrom, attributeNumber, attributeFits, attributeFrom, stateNumber, stateFits, stateFrom, acaNumber, acaFrom, qerrNumber, qerrFrom, policyNumber, policyFits, policyFrom, pendingNumber, pendingFits, pendingFrom}
+use Rattle.records.specs.Numbers.{flag, tagFrom, attributeNumber, attributeFits, attributeFrom, stateNumber, stateFits, stateFrom, acaNumber, acaFrom, policyNumber, policyFits, policyFrom, pendingNumber, pendingFits, pendingFrom}
 
 -- Tests that are computed once -------------------------------------------------------------------------------------------------------------
 

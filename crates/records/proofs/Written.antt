@@ -6,11 +6,9 @@ use native.Mathlib.Omega.{arith}
 use lib.ListN.{length, getD, take, drop, length-append}
 use lib.Seq.{drop-drop, drop-at, take-at}
 use Rattle.laws.specs.Records.{recordAt, joined}
-use Rattle.rules.specs.Tasks.{places, nexuses}
 use Rattle.rules.specs.Rulings.{State}
-use Rattle.rules.specs.Well.{WellFormed}
-use Rattle.rules.specs.Types.{Task, Pending, Header, Ended}
-use Rattle.records.specs.Records.{headerBytes, headerFrom, nexusBytes, taskBytes, taskFrom, endedBytes}
+use Rattle.rules.specs.Types.{Task, Pending}
+use Rattle.records.specs.Records.{headerBytes, headerFrom, taskBytes, taskFrom}
 use Rattle.records.specs.Tables.{tasksFrom, pendingsFrom, stateOf, nexusRecords, unusedRecords, taskRecords, tableBytes}
 use Rattle.records.proofs.Values.{attribute-back, state-back, flag-back, aca-back, policy-back, pending-back, tag-back}
 

@@ -3,9 +3,9 @@
 --   eventFrom k n a b g := the event of kind k, nexus n, first a, second b and tag g, or that there is none
 --   eventOf bytes       := the event of a string of bytes, or that there is none
 use Prim.Native.Nat.{ℕ}
-use mathlib.Core.Bool.{Bool, true, false, cond, _||_, _&&_, not}
+use mathlib.Core.Bool.{Bool, true, false, cond, _||_, _&&_}
 use mathlib.Core.List.{List}
-use lib.Dec.{eqb, ltb, leb}
+use lib.Dec.{eqb, ltb}
 use lib.ListN.{length, getD}
 use Rattle.rules.specs.Types.{Asked, Known, NoneOfFour, Finish, Good, CheckCondition, Function, AbortTask, AbortTaskSet, ClearTaskSet, ClearAca, LogicalUnitReset, Unknown, Happening, PowerOn, HardReset, NexusLoss, Event, Command, Completion, Management, Condition}
 use Rattle.records.specs.Types.{EventRead, Readable, Unreadable}

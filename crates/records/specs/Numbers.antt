@@ -5,9 +5,9 @@
 --   attributeFits, stateFits, policyFits, pendingFits   := the byte has a value
 --   bitOf n d     := the bit of weight d in n
 --   tagFrom hi lo := a tag from its two bytes, big-endian
-use Prim.Native.Nat.{ℕ, suc, _+_, _-_, _*_, _/_, _%_}
+use Prim.Native.Nat.{ℕ, _+_, _-_, _*_, _/_, _%_}
 use mathlib.Core.Bool.{Bool, true, false, cond, _||_, _&&_, not}
-use lib.Dec.{eqb, ltb, leb}
+use lib.Dec.{eqb, ltb}
 use Rattle.rules.specs.Types.{Attribute, Simple, HeadOfQueue, Ordered, Aca, TaskState, Dormant, Enabled, Blocked, Qerr, EndNone, EndAll, EndNexus, Policy, Allegiance, Clear, Faulted, Pending}
 
 abbrev pub flag : Bool → ℕ

@@ -5,8 +5,8 @@
 --   headerBytes h, nexusBytes i p, taskBytes t, unusedBytes, endedBytes e   := the record of a value
 --   headerFrom r, pendingIn r, taskFrom r   := the value of a record; of one that the tests refuse, any
 --   headerFits r, nexusFits i r, taskFits r, unusedFits r   := the record is one of its kind, field by field
-use Prim.Native.Nat.{ℕ, _+_, _/_, _%_}
-use mathlib.Core.Bool.{Bool, true, false, _&&_}
+use Prim.Native.Nat.{ℕ, _/_, _%_}
+use mathlib.Core.Bool.{Bool, _&&_}
 use mathlib.Core.List.{List, [], _∷_}
 use lib.Dec.{eqb, ltb, leb}
 use lib.ListN.{getD}
@@ -75,10 +75,10 @@ taskFrom r =
       tag = tagFrom (getD r 6 0) (getD r 7 0);
     }
 
--- "A task's nexus is 0 to 7."; "Bits 1 to 7 of a task's control byte are 0."
 abbrev pub taskRestFits : List ℕ → Bool
 taskRestFits r = marked r 0x54 && attributeFits (getD r 3 0) && stateFits (getD r 4 0)
 
+-- "A task's nexus is 0 to 7."; "Bits 1 to 7 of a task's control byte are 0."
 abbrev pub taskFits : List ℕ → Bool
 taskFits r = ltb (getD r 2 0) 8 && (ltb (getD r 5 0) 2 && taskRestFits r)
 

@@ -3,8 +3,7 @@ use Prim.Native.Nat.{ℕ, zero, suc}
 use mathlib.Core.Bool.{Bool, true, false}
 use mathlib.Core.Path.{_≡_, refl}
 use mathlib.Core.List.{List, [], _∷_, _++_, map}
-use mathlib.Core.Option.{Option, none, some}
-use Rattle.rules.specs.Types.{Attribute, Simple, HeadOfQueue, Ordered, TaskState, Dormant, Enabled, Blocked, Task, Known, Event, Command, Completion, Good, CheckCondition, Management, AbortTask, AbortTaskSet, ClearTaskSet, Pending, EndNone, Policy, Clear, Answer, EndedAtEntry, Ended, Turn, Nothing, Names}
+use Rattle.rules.specs.Types.{Attribute, Simple, HeadOfQueue, Ordered, TaskState, Dormant, Enabled, Task, Known, Event, Command, Completion, Good, CheckCondition, Management, AbortTask, AbortTaskSet, ClearTaskSet, Pending, EndNone, Clear, Ended, Turn, Names}
 use Rattle.rules.specs.Tasks.{named, turnOf}
 use Rattle.rules.specs.Rulings.{State, fresh}
 use Rattle.rules.specs.Rules.{ended, newTask, enter, complete, manage, ruleFor, ruling, step, answer, report}

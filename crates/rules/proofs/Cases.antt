@@ -2,17 +2,17 @@
 use Prim.Native.Nat.{ℕ, _<_, _≤_}
 use mathlib.Core.Bool.{Bool, true, false, cond, _&&_, not}
 use mathlib.Core.Path.{_≡_, refl, sym}
-use mathlib.Core.List.{List, [], _∷_}
+use mathlib.Core.List.{[], _∷_}
 use mathlib.Core.Option.{Option, none, some}
 use lib.Dec.{eqb, ltb, leb}
 use borrow.Author.Tests.{ltb-true, lt-ltb, le-ltb, not-true, not-false}
 use Rattle.laws.specs.Lists.{any, first}
 use Rattle.laws.proofs.Bools.{and-true, cases, none-some, some-is}
-use Rattle.rules.specs.Types.{Task, Entry, Finish, Function, Happening, Event, Command, Completion, Management, Condition, Allegiance, Clear, Faulted, Header, Pending, Bit, Top, NoBit, Highest, Nobody, NexusTasks, Reported, NoTask, Change, Sense, EndedAtEntry, Done, NexusAboveSeven, NoSuchTask, NotEnabled, Ruling, Keeps, Changes}
+use Rattle.rules.specs.Types.{Task, Entry, Finish, Function, Happening, Event, Command, Completion, Management, Condition, Allegiance, Clear, Faulted, Header, Pending, Bit, Top, NoBit, Highest, Nobody, NexusTasks, Reported, NoTask, Sense, EndedAtEntry, Done, NexusAboveSeven, NoSuchTask, NotEnabled, Ruling, Keeps, Changes}
 use Rattle.rules.specs.Tasks.{nexuses, isEnabled, acaTask, same, isNamed}
 use Rattle.rules.specs.Bits.{top, senseFor}
 use Rattle.rules.specs.Rulings.{State, pendingOf, turn}
-use Rattle.rules.specs.Rules.{sweeping, checked, onlyIf, check1, asksAca, check2, check3, badAttribute, check4, check5, accepting, decide, enter, finish, complete, manage, happen, nexusOf, ruleFor, ruling}
+use Rattle.rules.specs.Rules.{sweeping, checked, onlyIf, check1, asksAca, check2, check3, badAttribute, accepting, decide, enter, finish, complete, manage, happen, nexusOf, ruleFor, ruling}
 
 only-if : (P : Ruling → Type 0) (b : Bool) (r q : Ruling) → P r → onlyIf b r ≡ some q → P q
 only-if P true r q p e = some-is P r q e p

@@ -1,12 +1,12 @@
 -- Laws of what looks at no state: restating the tasks leaves it as it was. No two tasks share nexus and tag, and it stays so.
 use Prim.Native.Nat.{ℕ, suc}
-use mathlib.Core.Bool.{Bool, true, false, _&&_, not}
+use mathlib.Core.Bool.{Bool, true, false, not}
 use mathlib.Core.Path.{_≡_, refl, ap, sym, _∙_}
 use mathlib.Core.List.{List, [], _∷_, _++_, map}
-use mathlib.Core.Option.{Option, none, some}
+use mathlib.Core.Option.{some}
 use lib.Dec.{eqb}
 use lib.ListN.{length, length-map}
-use borrow.Author.Tests.{not-true, eqb-true, eq-eqb}
+use borrow.Author.Tests.{not-true, eqb-true}
 use Rattle.laws.specs.Lists.{any, first}
 use Rattle.laws.proofs.Bools.{and-true, or-false, not-both, split, eqb-sym}
 use Rattle.laws.proofs.Lists.{any-append, first-cases, first-any}

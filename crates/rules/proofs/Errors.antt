@@ -1,17 +1,17 @@
 -- Laws that document 01's plausible errors, and the faults found in the field, would break.
 use Prim.Native.Nat.{ℕ, zero, suc, _+_, _<_}
-use mathlib.Core.Bool.{Bool, true, false, cond, _||_, _&&_, not}
+use mathlib.Core.Bool.{Bool, true, false, _&&_, not}
 use mathlib.Core.Option.{Option, none, some}
-use mathlib.Core.Path.{_≡_, refl, ap, sym, _∙_}
+use mathlib.Core.Path.{_≡_, refl, ap, _∙_}
 use mathlib.Core.List.{List, [], _∷_, _++_, map, append-nil}
 use native.Mathlib.Omega.{arith}
-use lib.Dec.{eqb, ltb}
+use lib.Dec.{ltb}
 use lib.ListN.{length, getD, replicate}
 use borrow.Author.Tests.{lt-ltb, eq-eqb}
 use Rattle.laws.specs.Lists.{one-if, any, count, first}
 use Rattle.laws.proofs.Bools.{not-both, cases}
 use Rattle.laws.proofs.Lists.{any-never}
-use Rattle.rules.specs.Types.{Attribute, Simple, HeadOfQueue, Ordered, Aca, TaskState, Dormant, Enabled, Blocked, Task, Finish, Good, CheckCondition, Event, Management, Condition, Function, AbortTask, AbortTaskSet, PowerOn, Allegiance, Clear, Faulted, Header, Pending, Bit, PowerBit, HardBit, UnitBit, LossBit, ClearedBit, Top, NoBit, Highest, Fate, Stays, Ends, Sweep, OneTask, AllTasks, FailedTask, Policy, EndAll}
+use Rattle.rules.specs.Types.{Attribute, Simple, HeadOfQueue, Ordered, Aca, TaskState, Dormant, Enabled, Blocked, Task, Finish, Good, CheckCondition, Management, Condition, AbortTask, AbortTaskSet, PowerOn, Allegiance, Clear, Faulted, Header, Pending, Bit, PowerBit, HardBit, UnitBit, LossBit, ClearedBit, Top, NoBit, Highest, Fate, Stays, Ends, Sweep, OneTask, AllTasks, FailedTask, Policy, EndAll}
 use Rattle.values.specs.Headers.{runAfter}
 use Rattle.rules.specs.Tasks.{nexuses, isPlain, same, withState, eligible, enabledIf, settleFrom, blockedIfEnabled, restate}
 use Rattle.rules.specs.Bits.{noPending, top, afterPowerOn}

@@ -1,15 +1,15 @@
 -- Laws of those that stay and those that end.
-use Prim.Native.Nat.{ℕ, suc, _+_, _≤_, _<_}
+use Prim.Native.Nat.{suc, _+_, _≤_, _<_}
 use mathlib.Core.Bool.{Bool, true, false, _&&_, not}
 use mathlib.Core.Path.{_≡_, refl, ap}
 use mathlib.Core.List.{List, [], _∷_, map}
-use mathlib.Core.Option.{Option, none, some}
+use mathlib.Core.Option.{some}
 use native.Mathlib.Omega.{arith}
 use lib.ListN.{length}
 use Rattle.laws.specs.Lists.{one-if, any, count, first}
 use Rattle.laws.proofs.Bools.{not-both, or-false, none-some}
 use Rattle.laws.proofs.Lists.{first-cases}
-use Rattle.rules.specs.Types.{Task, Fate, Stays, Ends, Ended}
+use Rattle.rules.specs.Types.{Task, Fate, Stays, Ends}
 use Rattle.rules.specs.Rulings.{kept, lost, endedFrom}
 
 abbrev pub isEnds : Fate → Bool

@@ -1,12 +1,12 @@
 -- Laws of tables in an ACA.
 use Prim.Native.Nat.{ℕ}
-use mathlib.Core.Bool.{Bool, true, false, _||_, _&&_, not}
+use mathlib.Core.Bool.{Bool, true, false, _&&_, not, and-false as and-off}
 use mathlib.Core.Path.{_≡_, refl}
 use mathlib.Core.List.{List, [], _∷_, _++_, map}
-use mathlib.Core.Option.{Option, none, some}
+use mathlib.Core.Option.{some}
 use lib.Dec.{eqb}
 use Rattle.laws.specs.Lists.{any, first, isNil}
-use Rattle.laws.proofs.Bools.{and-true, and-off, or-false, not-both, none-some, split}
+use Rattle.laws.proofs.Bools.{and-true, or-false, not-both, none-some, split}
 use Rattle.laws.proofs.Lists.{first-cases}
 use Rattle.rules.specs.Types.{Attribute, Simple, HeadOfQueue, Ordered, Aca, TaskState, Dormant, Enabled, Blocked, Task, Fate, Stays, Ends}
 use Rattle.rules.specs.Tasks.{isAca, isEnabled, isPlain, acaTask, ofNexus, eligible, enabledIf, blockedIfEnabled, enabledPlain}

@@ -1,12 +1,11 @@
 -- The mission's accident cannot happen: nothing younger overtakes an ORDERED write, nor a HEAD OF QUEUE task.
-use Prim.Native.Nat.{ℕ}
-use mathlib.Core.Bool.{Bool, true, false, _||_}
+use mathlib.Core.Bool.{Bool, true, false}
 use mathlib.Core.Path.{_≡_, refl}
 use mathlib.Core.List.{List, [], _∷_, _++_}
 use Rattle.laws.specs.Lists.{any}
-use Rattle.laws.proofs.Bools.{or-false, not-both}
+use Rattle.laws.proofs.Bools.{or-false}
 use Rattle.laws.proofs.Lists.{any-suffix}
-use Rattle.rules.specs.Types.{Attribute, Simple, HeadOfQueue, Ordered, Aca, Task, Allegiance, Clear, Faulted}
+use Rattle.rules.specs.Types.{Attribute, Simple, Task, Allegiance, Clear, Faulted}
 use Rattle.rules.specs.Tasks.{acaTask, enabledTask, enabledPlain, holdsBack}
 use Rattle.rules.specs.Rulings.{State}
 use Rattle.rules.specs.Well.{Stands, WellFormed, settled, statesFit}

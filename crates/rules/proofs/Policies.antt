@@ -1,10 +1,10 @@
 -- "Policy survives all."
-use Prim.Native.Nat.{ℕ, _<_}
+use Prim.Native.Nat.{ℕ}
 use mathlib.Core.Bool.{Bool}
 use mathlib.Core.Path.{_≡_, refl}
 use lib.Dec.{eqb}
 use Rattle.laws.proofs.Bools.{cases}
-use Rattle.rules.specs.Types.{Task, Entry, Finish, Good, CheckCondition, Function, AbortTask, AbortTaskSet, ClearTaskSet, ClearAca, LogicalUnitReset, Unknown, Happening, PowerOn, HardReset, NexusLoss, Event, Completion, Allegiance, Clear, Faulted, Changes, Done, Ruling}
+use Rattle.rules.specs.Types.{Task, Finish, Good, CheckCondition, Function, AbortTask, AbortTaskSet, ClearTaskSet, ClearAca, LogicalUnitReset, Unknown, Happening, PowerOn, HardReset, NexusLoss, Event, Allegiance, Clear, Faulted, Changes, Done, Ruling}
 use Rattle.rules.specs.Rulings.{State, ruled}
 use Rattle.rules.specs.Rules.{finish, clearing, manage, happen, ruling}
 use Rattle.rules.proofs.Cases.{enter-cases, completion-cases, other-cases}

@@ -1,11 +1,10 @@
 -- Laws of eligibility and of tables without ACA.
-use Prim.Native.Nat.{ℕ}
-use mathlib.Core.Bool.{Bool, true, false, _||_, _&&_, not}
+use mathlib.Core.Bool.{Bool, true, false, _&&_, not, or-true as or-on}
 use mathlib.Core.Path.{_≡_, refl}
-use mathlib.Core.List.{List, [], _∷_, _++_}
+use mathlib.Core.List.{List, [], _∷_}
 use borrow.Author.Tests.{not-true}
 use Rattle.laws.specs.Lists.{any}
-use Rattle.laws.proofs.Bools.{and-true, or-false, or-on, not-both}
+use Rattle.laws.proofs.Bools.{and-true, or-false, not-both}
 use Rattle.rules.specs.Types.{Attribute, Simple, HeadOfQueue, Ordered, Aca, TaskState, Dormant, Enabled, Blocked, Task}
 use Rattle.rules.specs.Tasks.{isHead, isPlain, isAca, isEnabled, acaTask, holdsBack, eligible, enabledIf, settleFrom, enabledTask, enabledHead, enabledPlain}
 use Rattle.rules.specs.Well.{sameState, settled}

@@ -1,17 +1,17 @@
 -- Laws of the turn rule, most of them in a table without ACA.
-use Prim.Native.Nat.{ℕ, _+_, _<_}
-use mathlib.Core.Bool.{Bool, true, false, cond, _||_, _&&_, not}
+use Prim.Native.Nat.{ℕ, _<_}
+use mathlib.Core.Bool.{Bool, true, false, _||_, _&&_, not, or-true as or-on}
 use mathlib.Core.Path.{_≡_, refl, ap}
 use mathlib.Core.List.{List, [], _∷_, _++_}
-use mathlib.Core.Option.{Option, none, some}
+use mathlib.Core.Option.{some}
 use native.Mathlib.Omega.{arith}
 use lib.Dec.{ltb}
 use borrow.Author.Tests.{ltb-true, not-true}
 use Rattle.laws.specs.Lists.{one-if, any, count, first}
-use Rattle.laws.proofs.Bools.{and-true, and-false, or-false, or-true, or-on, not-both, none-some, cases, split}
+use Rattle.laws.proofs.Bools.{and-true, and-false, or-false, or-true, not-both, none-some, cases, split}
 use Rattle.laws.proofs.Lists.{first-cases, first-passes, first-append}
 use Rattle.rules.specs.Types.{Attribute, Simple, HeadOfQueue, Ordered, Aca, Task, Clear, Faulted}
-use Rattle.rules.specs.Tasks.{isHead, isPlain, isAca, isEnabled, acaTask, enabledTask, enabledHead, enabledPlain, same, named}
+use Rattle.rules.specs.Tasks.{isHead, isPlain, isAca, acaTask, enabledTask, enabledHead, enabledPlain, same, named}
 use Rattle.rules.specs.Well.{settled, distinct}
 use Rattle.rules.proofs.Distinct.{distinct-first}
 use Rattle.rules.proofs.Settled.{headTask, settled-cons, enabled-head, held-back, oldest-enabled}
@@ -70,6 +70,18 @@ else-plain (u ∷ us) x e h n =
     let p = plain-oldest u us e h in
     first-cases enabledTask u us x n (λ a b. rw b at p) (λ a b. not-both (oldest-enabled u us e) a)
 
+-- the rule's "else" with a HEAD OF QUEUE task as the oldest does not come up: that task is enabled, and no other is
+pub else-not-head :
+    (run : ℕ) (u : Task) (us : List Task) → settled [] (u ∷ us) ≡ true
+    → any enabledHead (u ∷ us) && (ltb run 4 || not (any enabledPlain (u ∷ us))) ≡ false → headTask u ≡ false
+else-not-head run u us e b =
+    split (headTask u)
+    (λ y.
+    let k : any enabledHead (u ∷ us) ≡ true = rw (enabled-head [] u us (settled-cons [] u us e) y) in
+    not-both (rw (none-plain u us e y) (or-on (ltb run 4)))
+    (and-false (any enabledHead (u ∷ us)) (ltb run 4 || not (any enabledPlain (u ∷ us))) b k))
+    (λ y. y)
+
 -- whom the turn rule names: the oldest HEAD OF QUEUE task, after fewer than four of them if the oldest task is none; or the oldest
 named-cases :
     {P : Type 0} (run : ℕ) (u : Task) (us : List Task) (x : Task) → settled [] (u ∷ us) ≡ true → named Clear run (u ∷ us) ≡ some x
@@ -86,13 +98,7 @@ named-cases {P} run u us x e n f g =
     let k = and-true (any enabledHead (u ∷ us)) (ltb run 4 || not (any enabledPlain (u ∷ us))) b .1 in
     let q : any enabledPlain (u ∷ us) ≡ true = rw (oldest-plain u us e nh) in
     not-both q (not-true _ (or-true (ltb run 4) (not (any enabledPlain (u ∷ us))) k l))))))
-    (λ b h.
-    split (headTask u)
-    (λ y.
-    let k : any enabledHead (u ∷ us) ≡ true = rw (enabled-head [] u us (settled-cons [] u us e) y) in
-    not-both (rw (none-plain u us e y) (or-on (ltb run 4)))
-    (and-false (any enabledHead (u ∷ us)) (ltb run 4 || not (any enabledPlain (u ∷ us))) b k))
-    (λ y. g (let h′ : some u ≡ some x = rw (oldest-enabled u us e) at h in cc) y))
+    (λ b h. g (let h′ : some u ≡ some x = rw (oldest-enabled u us e) at h in cc) (else-not-head run u us e b))
     n
 
 enabled-at :

@@ -1,22 +1,22 @@
 -- Each event keeps a state well formed. Here that is said of the test, taken apart; WellSays carries it to the paper's words.
-use Prim.Native.Nat.{ℕ, suc, _+_, _≤_, _<_, min}
-use mathlib.Core.Bool.{Bool, true, false, cond, _||_, _&&_, not}
-use mathlib.Core.Path.{_≡_, refl, ap, sym, _∙_}
+use Prim.Native.Nat.{ℕ, suc, _≤_, _<_}
+use mathlib.Core.Bool.{Bool, true, false, cond, _&&_, not, and-false as and-off}
+use mathlib.Core.Path.{_≡_, refl, ap, _∙_}
 use mathlib.Core.List.{List, [], _∷_, _++_, map, append-nil}
-use mathlib.Core.Option.{Option, none, some}
+use mathlib.Core.Option.{none, some}
 use native.Mathlib.Omega.{arith}
-use lib.Dec.{eqb, ltb, leb}
-use lib.ListN.{length, getD, set, length-append, length-map, length-set}
+use lib.Dec.{eqb, leb}
+use lib.ListN.{length, length-append, length-map, length-set}
 use borrow.Author.Tests.{lt-ltb, eqb-true, eq-eqb, not-true, leb-true, leb-false, le-leb, lt-leb}
 use Rattle.laws.specs.Lists.{any, first}
-use Rattle.laws.proofs.Bools.{and-true, and-off, not-both, cases}
+use Rattle.laws.proofs.Bools.{and-true, not-both, cases}
 use Rattle.laws.proofs.Lists.{any-append, any-less, any-never, first-passes}
-use Rattle.rules.specs.Types.{Attribute, Simple, HeadOfQueue, Ordered, Aca, Enabled, Task, Asked, Known, NoneOfFour, Entry, Finish, Good, CheckCondition, Function, AbortTask, AbortTaskSet, ClearTaskSet, ClearAca, LogicalUnitReset, Unknown, Happening, PowerOn, HardReset, NexusLoss, Event, Command, Completion, Management, Condition, Policy, Qerr, Allegiance, Clear, Faulted, Header, Pending, Fate, Ends, Sweep, AcaTask, AllTasks, FailedTask, NexusTasks, Notice, Quiet, Reported, OthersLost, NexusLost, UnitWasReset, HardWasReset, PowerCameOn, NoTask, Change, Answer, Done, Ruling, Keeps, Changes}
+use Rattle.rules.specs.Types.{Attribute, Simple, HeadOfQueue, Ordered, Aca, Enabled, Task, Asked, Known, NoneOfFour, Entry, Finish, Good, CheckCondition, Function, AbortTask, AbortTaskSet, ClearTaskSet, ClearAca, LogicalUnitReset, Unknown, Happening, PowerOn, HardReset, NexusLoss, Event, Policy, Allegiance, Clear, Faulted, Pending, Fate, Ends, Sweep, AcaTask, AllTasks, FailedTask, NexusTasks, Notice, Quiet, Reported, OthersLost, NexusLost, UnitWasReset, HardWasReset, PowerCameOn, NoTask, Change, Answer, Ruling, Keeps, Changes}
 use Rattle.values.specs.Headers.{runAfter, withAca, withRun}
-use Rattle.rules.specs.Tasks.{isAca, isEnabled, acaTask, ofNexus, same, restate, isNamed}
+use Rattle.rules.specs.Tasks.{isAca, isEnabled, acaTask, ofNexus, same, restate}
 use Rattle.rules.specs.Bits.{afterPowerOn, afterHardReset, afterUnitReset}
-use Rattle.rules.specs.Rulings.{State, turn, fresh, endIf, kept, lost, fateByQerr, fateOf, newcomers, tellLosersFrom, noted, ruled}
-use Rattle.rules.specs.Rules.{sweeping, asksAca, check2, badAttribute, attributeOf, newTask, accepting, enter, acaAfter, finish, resetting, clearing, manage, acaWithout, happen, ruling, step}
+use Rattle.rules.specs.Rulings.{State, fresh, endIf, kept, lost, fateByQerr, fateOf, newcomers, tellLosersFrom, noted, ruled}
+use Rattle.rules.specs.Rules.{sweeping, asksAca, check2, badAttribute, attributeOf, newTask, enter, finish, resetting, clearing, manage, acaWithout, happen, ruling}
 use Rattle.rules.specs.Well.{held, statesFit, faultFits, distinct, tooHigh, wellFormed}
 use Rattle.rules.proofs.Fates.{isEnds, any-kept, length-split, gone}
 use Rattle.rules.proofs.Distinct.{length-restate, any-restate, distinct-restate, distinct-kept, distinct-join, same-parts}

@@ -1,25 +1,23 @@
 -- The test of a well-formed state holds exactly if the paper's words do; and every event keeps them.
-use Prim.Native.Nat.{ℕ, _≤_, _<_}
-use mathlib.Core.Bool.{Bool, true, false, _||_, _&&_, not}
+use Prim.Native.Nat.{ℕ, _<_}
+use mathlib.Core.Bool.{Bool, true, false, _||_, not}
 use mathlib.Core.Path.{_≡_, refl, ap, sym, _∙_}
 use mathlib.Core.List.{List, [], _∷_, _++_, map}
 use mathlib.Core.Logic.{_↔_}
-use native.Mathlib.Omega.{arith}
-use lib.Dec.{eqb, ltb, leb}
-use lib.ListN.{length}
+use lib.Dec.{eqb}
 use borrow.Author.Tests.{eqb-true, eq-eqb, lt-ltb, ltb-true, leb-false, lt-leb, not-true}
 use Rattle.laws.specs.Lists.{any, isNil}
 use Rattle.laws.proofs.Bools.{and-true, or-false, not-both, split}
 use Rattle.laws.proofs.Lists.{any-suffix}
-use Rattle.rules.specs.Types.{Attribute, Simple, HeadOfQueue, Ordered, Aca, TaskState, Dormant, Enabled, Blocked, Task, Event, Policy, Allegiance, Clear, Faulted}
+use Rattle.rules.specs.Types.{Attribute, Simple, HeadOfQueue, Ordered, Aca, TaskState, Dormant, Enabled, Blocked, Task, Event, Allegiance, Clear, Faulted}
 use Rattle.rules.specs.Tasks.{isAca, isEnabled, same, holdsBack, eligible, enabledIf}
-use Rattle.rules.specs.Rulings.{State, fresh}
+use Rattle.rules.specs.Rulings.{State}
 use Rattle.rules.specs.Rules.{step}
-use Rattle.rules.specs.Well.{Stands, Eligible, FitsWithoutAca, FitsInAca, WellFormed, sameState, settledTask, heldTask, settled, held, statesFit, faultFits, distinct, tooHigh, wellFormed}
+use Rattle.rules.specs.Well.{Stands, FitsWithoutAca, FitsInAca, WellFormed, sameState, settledTask, heldTask, settled, held, statesFit, faultFits, distinct, tooHigh, wellFormed}
 use Rattle.rules.proofs.Distinct.{same-parts}
 use Rattle.rules.proofs.Settled.{is-aca, same-state, SettledHead, settled-cons}
 use Rattle.rules.proofs.Held.{held-cons, held-aca, held-enabled}
-use Rattle.rules.proofs.WellKept.{Tested, to-tested, from-tested, tested-ruling, tested-fresh}
+use Rattle.rules.proofs.WellKept.{Tested, to-tested, from-tested, tested-ruling}
 
 -- Every place of a list --------------------------------------------------------------------------------------------------------------------
 
@@ -277,6 +275,3 @@ well-formed-says s =
 pub well-formed-step : (s : State) (e : Event) → WellFormed s → WellFormed (step s e)
 unfolding step
 well-formed-step s e w = tested-says (step s e) (tested-ruling s e (says-tested s w))
-
-pub well-formed-fresh : (p : Policy) → WellFormed (fresh p)
-well-formed-fresh p = tested-says (fresh p) (tested-fresh p)

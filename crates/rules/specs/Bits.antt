@@ -6,7 +6,7 @@
 --   without b p           := p with that bit cleared
 --   afterPowerOn, afterHardReset, afterUnitReset, afterNexusLoss, afterCleared p
 --                         := p after power on, hard reset, logical unit reset, loss of its nexus, and after another initiator cleared its commands
-use mathlib.Core.Bool.{Bool, true, false, cond}
+use mathlib.Core.Bool.{true, false, cond}
 use Rattle.rules.specs.Types.{Pending, Bit, PowerBit, HardBit, UnitBit, LossBit, ClearedBit, Top, NoBit, Highest, Sense}
 
 abbrev pub noPending : Pending

@@ -1,5 +1,6 @@
 -- Tasks: which are eligible, their states after an event, and whose turn it is.
--- Document 01, "Bytes" (attributes, states, Eligible), "Ends, ACA and aborts" (the states) and "Turn rule" (what a turn does to run is in values/specs/Headers); 002, clause 8.6.
+-- Document 01, "Bytes" (attributes, states, Eligible), "Ends, ACA and aborts" (the states) and "Turn rule" (what a turn does to run is in
+-- values/specs/Headers); 002, clause 8.6.
 --
 --   places, nexuses             := 64 tasks, 8 nexuses
 --   isHead, isPlain, isAca a    := the attribute is HEAD OF QUEUE; SIMPLE or ORDERED; ACA

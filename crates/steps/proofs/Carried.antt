@@ -1,32 +1,21 @@
 -- Each step on the bytes, done to the table of a state, gives the table of the state that the rules say.
-use Prim.Native.Nat.{ℕ, zero, suc, _+_, _-_, _*_, _≤_, _<_}
-use mathlib.Core.Bool.{Bool, true, false, cond, _&&_, not}
-use mathlib.Core.Path.{_≡_, refl, ap, sym, _∙_}
-use mathlib.Core.List.{List, [], _∷_, _++_, map, append-assoc, append-nil}
-use native.Mathlib.Omega.{arith}
-use native.Mathlib.Numerals.{add-one}
-use lib.Dec.{eqb}
-use lib.ListN.{length, getD, take, drop, set, length-append, length-map}
-use lib.Seq.{drop-drop, drop-at, take-at, append-snoc}
-use borrow.Author.Tests.{eq-eqb, ne-eqb}
-use Rattle.laws.specs.Lists.{any}
-use Rattle.laws.specs.Records.{recordAt, putAt, joined, eachRecord, keepUnless, keptRecords}
+use Prim.Native.Nat.{ℕ, _+_, _-_}
+use mathlib.Core.Path.{_≡_, refl, ap, _∙_}
+use mathlib.Core.List.{List, [], _++_, map, append-assoc}
+use lib.ListN.{length, take, drop, length-map}
+use Rattle.laws.specs.Records.{joined, eachRecord}
 use Rattle.laws.proofs.Records.{each-written}
-use Rattle.rules.specs.Tasks.{ofNexus, withState, enabledIf, blockedIfEnabled, settleFrom, restate}
-use Rattle.rules.specs.Bits.{noPending, without, afterPowerOn, afterHardReset, afterUnitReset, afterNexusLoss, afterCleared}
-use Rattle.rules.specs.Rulings.{State, kept, lost, fateOf, endedFrom, tellLosersFrom, noted}
-use Rattle.rules.proofs.Fates.{length-split}
+use Rattle.rules.specs.Tasks.{withState, enabledIf, settleFrom}
+use Rattle.rules.specs.Rulings.{State}
 use Rattle.rules.proofs.Distinct.{blockedTask, length-restate}
-use Rattle.records.specs.Numbers.{attributeNumber, attributeFrom, stateNumber, stateFrom, pendingNumber, pendingFrom}
-use Rattle.records.specs.Records.{headerBytes, nexusBytes, taskBytes, taskFrom, unusedBytes}
+use Rattle.records.specs.Records.{headerBytes, taskBytes}
 use Rattle.records.specs.Tables.{tasksFrom, nexusRecords, unusedRecords, taskRecords, tableBytes}
-use Rattle.records.proofs.Values.{attribute-back, state-back, pending-back}
-use Rattle.records.proofs.Written.{task-back, tasks-back, length-nexuses, length-joined, table-tasks, table-front, table-behind-header}
+use Rattle.records.proofs.Values.{attribute-back, state-back}
+use Rattle.records.proofs.Written.{tasks-back, table-tasks, table-front}
 use Rattle.decide.specs.Walks.{noOlder, behindBy, eligibleBy, settledBy}
 use Rattle.decide.proofs.Walks.{settled-walk}
-use Rattle.rules.specs.Types.{Task, Header, Pending, Fate, Stays, Ends, Ended, Sweep, Notice, Quiet, Reported, OthersLost, NexusLost, UnitWasReset, HardWasReset, PowerCameOn, Allegiance, Clear, Faulted}
-use Rattle.decide.specs.declared.states.Older.{Older}
-use Rattle.steps.specs.Steps.{settledRecord, behindRecord, settledBytes, blockedRecord, nextPlace, blockedBytes, endsFate, goneBy, keptCount, closedBytes, notedOne, losers, notedRecord, notedBytes, endsOf}
+use Rattle.rules.specs.Types.{Task, Header, Pending, Clear}
+use Rattle.steps.specs.Steps.{settledRecord, behindRecord, settledBytes, blockedRecord, nextPlace, blockedBytes}
 
 abbrev pub withTasks : State → List Task → State
 withTasks s ts = record { header = s .header; pending = s .pending; tasks = ts }

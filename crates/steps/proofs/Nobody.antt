@@ -1,18 +1,18 @@
 -- The sweep under which nobody ends: nothing is listed, and every record stays where it is.
 use Prim.Native.Nat.{ℕ, zero, suc, _+_, _*_}
 use mathlib.Core.Bool.{true}
-use mathlib.Core.Path.{_≡_, refl, sym, ap, _∙_}
+use mathlib.Core.Path.{_≡_, refl, sym, ap}
 use mathlib.Core.List.{List, [], _∷_, _++_, map}
 use native.Mathlib.Omega.{arith}
-use lib.ListN.{length, take, drop}
+use lib.ListN.{take, drop}
 use lib.Seq.{take-add}
 use Rattle.laws.specs.Records.{keptRecords}
 use Rattle.rules.specs.Rulings.{fateOf, kept, endedFrom}
-use Rattle.records.specs.Records.{taskSize, taskFrom}
+use Rattle.records.specs.Records.{taskSize}
 use Rattle.records.specs.Tables.{tasksAt, tasksFrom}
 use Rattle.records.proofs.Good.{length-tasks-from}
 use Rattle.rules.specs.Types.{Task, Sweep, Nobody, OneTask, NexusTasks, AcaTask, AllTasks, ClearedBy, FailedTask}
-use Rattle.steps.specs.Steps.{endsNobody, goneBy, keptCount, endsOf}
+use Rattle.steps.specs.Steps.{endsNobody, goneBy, endsOf}
 use Rattle.steps.specs.Closing.{KeptAs}
 use Rattle.steps.specs.Reports.{ListedAs}
 

@@ -1,12 +1,12 @@
 -- Who is told, done to the table of a state.
 use Prim.Native.Nat.{ℕ, zero, suc, _+_, _<_}
-use mathlib.Core.Bool.{Bool, true, false, cond, _&&_, not}
+use mathlib.Core.Bool.{Bool, cond, _&&_, not}
 use mathlib.Core.Path.{_≡_, refl, ap, sym, _∙_}
-use mathlib.Core.List.{List, [], _∷_, _++_, map, append-assoc}
+use mathlib.Core.List.{List, [], _∷_, _++_, map}
 use native.Mathlib.Omega.{arith}
 use native.Mathlib.Numerals.{add-one}
 use lib.Dec.{eqb}
-use lib.ListN.{length, getD, take, drop, set}
+use lib.ListN.{length, getD, set}
 use borrow.Author.Tests.{eq-eqb, ne-eqb}
 use Rattle.laws.specs.Lists.{any}
 use Rattle.laws.specs.Records.{eachRecord}
@@ -16,7 +16,6 @@ use Rattle.rules.specs.Rulings.{State, tellLosersFrom, noted}
 use Rattle.records.specs.Records.{headerBytes, nexusBytes}
 use Rattle.records.specs.Tables.{nexusRecords, taskRecords, tableBytes}
 use Rattle.records.proofs.Values.{pending-back}
-use Rattle.records.proofs.Written.{table-header, table-behind-header}
 use Rattle.rules.specs.Types.{Task, Pending, Notice, Quiet, Reported, OthersLost, NexusLost, UnitWasReset, HardWasReset, PowerCameOn}
 use Rattle.steps.specs.Steps.{notedOne, notedRecord, nextPlace, notedBytes}
 use Rattle.steps.proofs.Carried.{withPending}

@@ -1,9 +1,9 @@
 -- What the loop that lists the ended tasks promises of the report; the rest of it is zeroed by the next step.
-use Prim.Native.Nat.{ℕ, suc, _+_, _*_, _≤_}
+use Prim.Native.Nat.{ℕ, _+_, _*_, _≤_}
 use mathlib.Core.Path.{_≡_}
 use mathlib.Core.List.{List, [], _∷_, _++_}
-use lib.ListN.{length, take, drop}
-use Rattle.laws.specs.Records.{joined, putAt}
+use lib.ListN.{length, take}
+use Rattle.laws.specs.Records.{joined}
 use Rattle.rules.specs.Rulings.{fateOf}
 use Rattle.records.specs.Records.{taskSize, taskFrom, endedBytes}
 use Rattle.rules.specs.Types.{Task, Fate, Stays, Ends, Ended, Sweep}

@@ -1,28 +1,26 @@
 -- What code decides from searches over a good table is the ruling on the state that the table says.
 use Prim.Native.Nat.{ℕ, zero, suc, _+_, _*_, _≤_, _<_}
-use mathlib.Core.Bool.{Bool, true, false, cond}
+use mathlib.Core.Bool.{Bool, true}
 use mathlib.Core.Path.{_≡_, refl, ap, sym, _∙_}
-use mathlib.Core.List.{List, [], _∷_}
-use mathlib.Core.Option.{Option, none, some}
+use mathlib.Core.List.{List, []}
 use native.Mathlib.Omega.{arith}
-use lib.ListN.{length, getD, take, drop}
-use lib.Seq.{drop-drop, getD-drop, getD-take}
+use lib.ListN.{getD, drop}
+use lib.Seq.{getD-drop, getD-take}
 use Rattle.laws.specs.Lists.{any, first}
 use Rattle.laws.specs.Records.{recordAt}
 use Rattle.rules.specs.Tasks.{acaTask, same, named, turnOf, isNamed}
 use Rattle.rules.specs.Bits.{noPending}
-use Rattle.rules.specs.Rulings.{State, pendingOf, turn}
-use Rattle.rules.specs.Rules.{enter, complete, manage, happen, nexusOf, ruleFor, ruling}
+use Rattle.rules.specs.Rulings.{pendingOf, turn}
+use Rattle.rules.specs.Rules.{enter, complete, nexusOf, ruleFor, ruling}
 use Rattle.rules.specs.Well.{statesFit}
 use Rattle.rules.proofs.Cases.{ruling-low, rule-command, rule-completion, rule-management, rule-condition}
 use Rattle.rules.proofs.Settled.{settled-ordinary}
 use Rattle.rules.proofs.Turns.{named-in-aca}
 use Rattle.rules.proofs.WellKept.{Tested}
 use Rattle.records.specs.Numbers.{pendingFrom}
-use Rattle.records.specs.Records.{pendingIn, headerFrom}
+use Rattle.records.specs.Records.{headerFrom}
 use Rattle.records.specs.Tables.{tasksFrom, pendingsFrom, stateOf, goodTable}
 use Rattle.records.proofs.Good.{good-tested}
-use Rattle.decide.specs.Searches.{foundIn, chosen, turnFound}
 use Rattle.decide.proofs.Walks.{turn-found, chosen-named}
 use Rattle.inspect.specs.Tests.{searchedTurn}
 use Rattle.rules.specs.Types.{Task, Event, Command, Completion, Management, Condition, Allegiance, Clear, Faulted, Header, Pending, Turn}

@@ -4,7 +4,7 @@
 --   pendingAt b n              := the pending bits of nexus n in the table b
 --   searchedRuling b h e ts    := the ruling on the event e, by the header h and the tasks ts of the table b
 use Prim.Native.Nat.{ℕ, _+_, _*_}
-use mathlib.Core.Bool.{Bool, true, false}
+use mathlib.Core.Bool.{Bool, false}
 use mathlib.Core.List.{List}
 use lib.ListN.{getD}
 use Rattle.laws.specs.Lists.{any, first}
@@ -12,7 +12,7 @@ use Rattle.rules.specs.Tasks.{acaTask, same, isNamed}
 use Rattle.rules.specs.Rules.{enter, complete, manage, happen}
 use Rattle.records.specs.Numbers.{pendingFrom}
 use Rattle.inspect.specs.Tests.{searchedTurn}
-use Rattle.rules.specs.Types.{Task, Entry, Finish, Function, Happening, Event, Command, Completion, Management, Condition, Allegiance, Clear, Faulted, Header, Pending, Ruling}
+use Rattle.rules.specs.Types.{Task, Event, Command, Completion, Management, Condition, Allegiance, Clear, Faulted, Header, Pending, Ruling}
 
 abbrev pub hasAca : Allegiance → List Task → Bool
 hasAca Clear ts = false

@@ -1,10 +1,10 @@
 -- The loops that write a fresh table's records.
-use Prim.Native.Nat.{ℕ, _+_}
+use Prim.Native.Nat.{ℕ}
 use mathlib.Core.List.{List, _++_}
 use lib.ListN.{take, drop}
 use Rattle.laws.specs.Records.{eachRecord}
 use Rattle.rules.specs.Bits.{noPending, afterPowerOn}
-use Rattle.records.specs.Records.{nexusBytes, unusedBytes}
+use Rattle.records.specs.Records.{nexusBytes}
 use Rattle.steps.specs.Steps.{nextPlace, clearedRecord}
 
 abbrev pub freshNexus : ℕ → List ℕ → List ℕ

@@ -7,7 +7,7 @@
 --   AppliedAs, StartedAs   := what a result and the buffers at exit have to be
 use Prim.Native.Nat.{ℕ}
 use mathlib.Core.Path.{_≡_}
-use mathlib.Core.Bool.{Bool, true, false, cond}
+use mathlib.Core.Bool.{cond}
 use mathlib.Core.List.{List, []}
 use lib.Dec.{eqb}
 use lib.ListN.{length}
@@ -16,7 +16,7 @@ use Rattle.rules.specs.Rules.{ruling}
 use Rattle.records.specs.Numbers.{policyFits, policyFrom}
 use Rattle.records.specs.Tables.{tableSize, reportSize, stateOf, tableBytes, reportBytes, goodTable}
 use Rattle.records.specs.Events.{eventOf}
-use Rattle.rules.specs.Types.{Event, Answer, Done, BadTable, BadReport, BadEvent, BadPolicy, Turn, Nothing, Ruling, Keeps, Changes}
+use Rattle.rules.specs.Types.{Answer, Done, BadTable, BadReport, BadEvent, BadPolicy, Turn, Nothing, Ruling, Keeps, Changes}
 use Rattle.records.specs.declared.events.EventRead.{EventRead, the-variants.Readable, the-variants.Unreadable}
 use Rattle.table.specs.Types.{Applied, Naming}
 use Rattle.table.specs.Answers.{writesReport}

@@ -2,7 +2,6 @@ use borrow.Author.Needs.{needs}
 use borrow.Author.Tests.{eq-eqb, ne-eqb, not-true, not-false}
 use mathlib.Core.Path.{refl, sym, _∙_}
 use mathlib.Core.Bool.{false}
-use native.Mathlib.Omega.{arith}
 use Rattle.inspect.proofs.TableTest.{count-fits, by-tests}
 use Rattle.inspect.proofs.fits.table_fits.Statement.{statement}
 use Rattle.inspect.proofs.fits.table_fits.Tie as tie

@@ -1,10 +1,10 @@
+use mathlib.Core.Bool.{and-false as and-off}
 use borrow.Author.Needs.{needs}
 use borrow.Author.Tests.{not-true, not-false}
 use mathlib.Core.Path.{_≡_}
 use Prim.Native.Nat.{_≤_, _-_, _+_, _*_}
 use native.Mathlib.Omega.{arith}
 use lib.ListN.{drop}
-use Rattle.laws.proofs.Bools.{and-off}
 use Rattle.decide.specs.Walks.{noOlder}
 use Rattle.inspect.specs.Tests.{usedFit}
 use Rattle.inspect.proofs.Loops.{used-next}

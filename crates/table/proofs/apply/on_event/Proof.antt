@@ -1,6 +1,5 @@
 use borrow.Author.Needs.{needs}
 use native.Mathlib.Omega.{arith}
-use mathlib.Core.Path.{sym, _∙_}
 use Rattle.rules.specs.Rules.{ruling}
 use Rattle.rules.proofs.Policies.{policy-survives}
 use Rattle.rules.proofs.WellKept.{tested-ruling, from-tested}
