@@ -1,4 +1,3 @@
 pub mod Loops
 pub mod Keys
-pub mod Unused
 pub mod TableTest

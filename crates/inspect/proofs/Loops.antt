@@ -12,9 +12,9 @@ use lib.ListN.{take, drop}
 use lib.Seq.{drop-drop}
 use Rattle.laws.specs.Records.{recordAt}
 use Rattle.laws.proofs.Bools.{split}
-use Rattle.rules.specs.Tasks.{nexuses}
-use Rattle.records.specs.Records.{nexusSize, taskSize, taskFrom, taskFits, nexusFits}
-use Rattle.records.specs.Tables.{nexusesAt, tasksAt, nexusesFit}
+use Rattle.rules.specs.Tasks.{places, nexuses}
+use Rattle.records.specs.Records.{nexusSize, taskSize, taskFrom, taskFits, nexusFits, unusedFits}
+use Rattle.records.specs.Tables.{nexusesAt, tasksAt, nexusesFit, unusedFit}
 use Rattle.decide.specs.Walks.{behindBy, fitsBy}
 use Rattle.rules.specs.Types.{Allegiance}
 use Rattle.decide.specs.declared.states.Older.{Older}
@@ -42,6 +42,17 @@ nexuses-next t i = next nexusSize (nexusesFit i) (λ k r l. nexusFits i r && nex
 pub nexuses-end : (i : ℕ) (l : List ℕ) → nexusesFit i 0 l ≡ true
 unfolding nexusesFit
 nexuses-end i l = refl
+
+pub unused-next :
+    (t : List ℕ) (i : ℕ) → i < places
+    → unusedFit (places - i) (drop (tasksAt + taskSize * i) t)
+    ≡ (unusedFits (recordAt taskSize t (tasksAt + taskSize * i)) && unusedFit (places - (i + 1)) (drop (tasksAt + taskSize * (i + 1)) t))
+unfolding unusedFit
+unused-next t i = next taskSize unusedFit (λ k r l. unusedFits r && unusedFit k l) (λ k l. refl) t tasksAt places i
+
+pub unused-end : (l : List ℕ) → unusedFit 0 l ≡ true
+unfolding unusedFit
+unused-end l = refl
 
 module _ (t : List ℕ) (n i : ℕ) (h : i < n) where
   pub keys-next :

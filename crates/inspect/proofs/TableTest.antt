@@ -4,10 +4,10 @@ use mathlib.Core.Bool.{Bool, true, false, _&&_, and-assoc}
 use mathlib.Core.Path.{_≡_, refl, ap, sym, _∙_}
 use mathlib.Core.List.{List, [], _∷_, map}
 use native.Mathlib.Omega.{arith}
-use lib.Dec.{eqb, ltb, leb}
+use lib.Dec.{eqb, leb}
 use lib.ListN.{length, getD, take, drop}
 use lib.Seq.{getD-drop, getD-take}
-use borrow.Author.Tests.{eqb-true, eqb-false, eq-eqb, ne-eqb, ltb-true, lt-ltb, le-leb, lt-leb, leb-false}
+use borrow.Author.Tests.{eqb-true, eqb-false, eq-eqb, ne-eqb, lt-ltb, le-leb, lt-leb, leb-false}
 use Rattle.laws.specs.Lists.{any, isNil}
 use Rattle.laws.specs.Records.{recordAt}
 use Rattle.laws.proofs.Bools.{and-true, or-false, split}
@@ -16,12 +16,13 @@ use Rattle.rules.specs.Well.{statesFit, faultFits, distinct, tooHigh, wellForme
 use Rattle.records.specs.Numbers.{tagFrom, acaFrom}
 use Rattle.records.specs.Records.{headerFrom, headerFits, taskFrom, taskFits}
 use Rattle.records.specs.Tables.{Bytes, tasksFrom, stateOf, nexusesFit, tasksFit, unusedFit, goodTable}
-use Rattle.records.proofs.Good.{length-tasks-from, length-pendings-from, header-fields, bytes-drop}
+use Rattle.records.proofs.TaskRecords.{task-nexus-low}
+use Rattle.records.proofs.Good.{length-tasks-from, length-pendings-from, header-good, bytes-drop}
 use Rattle.decide.specs.Walks.{noOlder, behindBy, fitsBy, fitBy}
 use Rattle.decide.proofs.Walks.{fit-walk}
 use Rattle.rules.specs.Types.{Task, Allegiance}
 use Rattle.decide.specs.declared.states.Older.{Older}
-use Rattle.inspect.specs.Tests.{usedFit, keyOf, keysFrom, apart, tableTest}
+use Rattle.inspect.specs.Tests.{usedFit, keyOf, keysFrom, apart, tableTest, recordsFit}
 
 -- Tests joined -----------------------------------------------------------------------------------------------------------------------------
 
@@ -65,8 +66,7 @@ unfolding tasksFit tasksFrom
 nexuses-low zero l e = refl
 nexuses-low (suc n) l e =
     let o = and-true (taskFits (take 8 l)) (tasksFit n (drop 8 l)) e in
-    let p = and-true (ltb (getD (take 8 l) 2 0) 8) _ (o .0) in
-    rw (lt-leb 8 (getD (take 8 l) 2 0) (ltb-true (getD (take 8 l) 2 0) 8 (p .0))) (nexuses-low n (drop 8 l) (o .1))
+    rw (lt-leb 8 (getD (take 8 l) 2 0) (task-nexus-low (take 8 l) (o .0))) (nexuses-low n (drop 8 l) (o .1))
 
 -- Names as numbers -------------------------------------------------------------------------------------------------------------------------
 
@@ -132,15 +132,15 @@ unfolding wellFormed stateOf
 well-is b long h t =
     let n = getD b 4 0 in
     let ts = tasksFrom n (drop 72 b) in
-    let f = header-fields b (omega arith) h in
+    let f = header-good b (omega arith) h in
     let byte : (i : ℕ) → i < 8 → getD (recordAt 8 b 0) i 0 ≡ getD b i 0 = λ i l. getD-take 8 b i 0 l in
-    let few : leb (length ts) 64 ≡ true = le-leb (length ts) 64 (omega (arith, f .0, length-tasks-from n (drop 72 b))) in
+    let few : leb (length ts) 64 ≡ true = le-leb (length ts) 64 (omega (arith, f .1, length-tasks-from n (drop 72 b))) in
     let counted : eqb (getD (recordAt 8 b 0) 4 0) (length ts) ≡ true =
     eq-eqb (getD (recordAt 8 b 0) 4 0) (length ts) (byte 4 (omega arith) ∙ sym (length-tasks-from n (drop 72 b)))
     in
-    let run : leb (getD (recordAt 8 b 0) 6 0) 4 ≡ true = le-leb (getD (recordAt 8 b 0) 6 0) 4 (omega (arith, f .2, byte 6 (omega arith))) in
+    let run : leb (getD (recordAt 8 b 0) 6 0) 4 ≡ true = le-leb (getD (recordAt 8 b 0) 6 0) 4 (omega (arith, f .3, byte 6 (omega arith))) in
     let fault : faultFits (acaFrom (getD (recordAt 8 b 0) 5 0)) ≡ true =
-    aca-fits (getD (recordAt 8 b 0) 5 0) (omega (arith, f .1, byte 5 (omega arith)))
+    aca-fits (getD (recordAt 8 b 0) 5 0) (omega (arith, f .2, byte 5 (omega arith)))
     in
     rw (run, few, counted, length-pendings-from 8 (drop 8 b), fault, nexuses-low n (drop 72 b) t)
 
@@ -180,25 +180,12 @@ module _ (b r : List ℕ) (read : r ≡ recordAt 8 b 0) where
 
   pub count-fits : length b ≡ 584 → headerFits r ≡ true → getD r 4 0 ≤ 64
   count-fits long h =
-      omega (arith, count-read, header-fields b (omega arith) (rw read at h) .0)
+      omega (arith, count-read, header-good b (omega arith) (rw read at h) .1)
 
   pub by-tests :
-      Bytes b → (x : Bool)
-      → x
-      ≡ eqb (length b) 584
-      && (headerFits r
-      && (nexusesFit 0 8 (drop 8 b)
-      && (usedFit (getD r 4 0) ((headerFrom r) .aca) noOlder (drop 72 b)
-      && (unusedFit (64 - getD r 4 0) (drop (72 + 8 * getD r 4 0) b) && apart (keysFrom (getD r 4 0) (drop 72 b))))))
+      Bytes b → (x : Bool) → x ≡ eqb (length b) 584 && (headerFits r && recordsFit (getD r 4 0) ((headerFrom r) .aca) b)
       → x ≡ goodTable b
   unfolding tableTest
   by-tests by x e =
-      let F : List ℕ → ℕ → Bool =
-      λ q n.
-      eqb (length b) 584
-      && (headerFits q
-      && (nexusesFit 0 8 (drop 8 b)
-      && (usedFit n ((headerFrom q) .aca) noOlder (drop 72 b)
-      && (unusedFit (64 - n) (drop (72 + 8 * n) b) && apart (keysFrom n (drop 72 b))))))
-      in
+      let F : List ℕ → ℕ → Bool = λ q n. eqb (length b) 584 && (headerFits q && recordsFit n ((headerFrom q) .aca) b) in
       e ∙ ap (λ (n : ℕ). F r n) count-read ∙ ap (λ (q : List ℕ). F q (getD b 4 0)) read ∙ table-test-is b by

@@ -6,6 +6,7 @@
 --   apart ks            := no two keys are the same
 --   spareKey            := a number that is no task's key, whatever its bytes: nexus 256, tag 0
 --   Spared ks n         := the first n of the 68 are tasks' keys, the others spare
+--   recordsFit n aca b  := the records behind a header that says n tasks and aca are good, their states fit, and no two share a name
 --   tableTest b         := the test of a table in code's order; that it is `goodTable` is proved (proofs/TableTest)
 --   searchedTurn aca run ts  := whose turn it is, by two searches
 use Prim.Native.Nat.{ℕ, zero, suc, _+_, _-_, _*_, _<_, _≤_}
@@ -53,11 +54,13 @@ abbrev pub searchedTurn : Allegiance → ℕ → List Task → Turn
 searchedTurn (Faulted f) run ts = turnFound (foundIn (first acaTask ts))
 searchedTurn Clear run ts = turnFound (chosen (foundIn (first enabledHead ts)) (foundIn (first enabledPlain ts)) run)
 
--- the test of a table in code's order
+abbrev pub recordsFit : ℕ → Allegiance → List ℕ → Bool
+recordsFit n aca b =
+    nexusesFit 0 nexuses (drop nexusesAt b)
+    && (usedFit n aca noOlder (drop tasksAt b)
+    && (unusedFit (places - n) (drop (tasksAt + taskSize * n) b) && apart (keysFrom n (drop tasksAt b))))
+
 unfoldable pub tableTest : List ℕ → Bool
 tableTest b =
     eqb (length b) tableSize
-    && (headerFits (recordAt headSize b 0)
-    && (nexusesFit 0 nexuses (drop nexusesAt b)
-    && (usedFit (countIn b) ((headerFrom (recordAt headSize b 0)) .aca) noOlder (drop tasksAt b)
-    && (unusedFit (places - countIn b) (drop (tasksAt + taskSize * countIn b) b) && apart (keysFrom (countIn b) (drop tasksAt b))))))
+    && (headerFits (recordAt headSize b 0) && recordsFit (countIn b) ((headerFrom (recordAt headSize b 0)) .aca) b)

@@ -3,12 +3,13 @@ use decide::states::behind;
 use decide::states::fits;
 use decide::states::no_older;
 use records::bytes::get8;
+use records::bytes::load8;
 use records::header::header_fits;
 use records::header::header_from;
 use records::nexus::nexus_fits;
 use records::tasks::task_fits;
 use records::tasks::task_from;
-use records::tasks::unused_fits;
+use records::tasks::unlike_unused;
 use values::Allegiance;
 use values::Tag;
 ghost use mathlib.Core.Path.{_≡_};
@@ -19,7 +20,7 @@ ghost use lib.ListN.{length, take, drop};
 ghost use Rattle.laws.specs.Lists.{any};
 ghost use Rattle.decide.specs.Walks.{noOlder};
 ghost use Rattle.records.specs.Tables.{nexusesFit, unusedFit, goodTable};
-ghost use Rattle.inspect.specs.Tests.{usedFit, keysFrom, apart, Spared};
+ghost use Rattle.inspect.specs.Tests.{usedFit, keysFrom, apart, Spared, recordsFit};
 
 // Nexus and tag as one number.
 pub type Key = u32;
@@ -36,7 +37,7 @@ fn nexuses_fit(t: &[u8]) -> bool
 {
     let mut n: usize = 0;
     while n < 8 {
-        if !nexus_fits(get8(t, 8 + 8 * n), n as u8) {
+        if !nexus_fits(load8(t, 8 + 8 * n), n as u8) {
             return false;
         }
         n += 1;
@@ -52,7 +53,7 @@ fn used_fit(t: &[u8], n: usize, aca: Allegiance) -> bool
     let mut o = no_older();
     let mut i: usize = 0;
     while i < n {
-        let r = get8(t, 72 + 8 * i);
+        let r = load8(t, 72 + 8 * i);
         let k = task_from(r);
         let a = k.attribute;
         if !fits(aca, k, o, i + 1 == n) {
@@ -67,21 +68,17 @@ fn used_fit(t: &[u8], n: usize, aca: Allegiance) -> bool
     true
 }
 
-// The first one by its bytes, and those behind it by being like the one before: so the compiler compares sixteen bytes at once.
 fn unused_fit(t: &[u8], n: usize) -> bool
     requires { ⌜ (length (now t) ≡ 584) × (n ≤ 64) ⌝ }
     ensures { λ r. ⌜ r ≡ unusedFit (64 - n) (drop (72 + 8 * n) (now (t .entry))) ⌝ }
 {
-    if n == 64 {
-        return true;
-    }
-    let mut ok = unused_fits(get8(t, 72 + 8 * n));
-    let mut i = 80 + 8 * n;
-    while i < 584 {
-        ok = ok & (t[i] == t[i - 8]);
+    let mut unlike: u64 = 0;
+    let mut i = n;
+    while i < 64 {
+        unlike = unlike | unlike_unused(load8(t, 72 + 8 * i));
         i += 1;
     }
-    ok
+    unlike == 0
 }
 
 // That the keys are 68 is asked: of an array behind a reference a proof is told no length.
@@ -134,6 +131,13 @@ fn names_fit(t: &[u8], n: usize) -> bool
     distinct(&keys, n)
 }
 
+fn records_fit(t: &[u8], n: usize, aca: Allegiance) -> bool
+    requires { ⌜ (length (now t) ≡ 584) × (n ≤ 64) ⌝ }
+    ensures { λ r. ⌜ r ≡ recordsFit n aca (now (t .entry)) ⌝ }
+{
+    nexuses_fit(t) & (used_fit(t, n, aca) & (unused_fit(t, n) & names_fit(t, n)))
+}
+
 // Whatever the bytes and however many.
 pub fn table_fits(t: &[u8]) -> bool
     ensures { λ r. ⌜ r ≡ goodTable (now (t .entry)) ⌝ }
@@ -141,21 +145,11 @@ pub fn table_fits(t: &[u8]) -> bool
     if t.len() != 584 {
         return false;
     }
-    let r = get8(t, 0);
+    let r = load8(t, 0);
     if !header_fits(r) {
-        return false;
-    }
-    if !nexuses_fit(t) {
         return false;
     }
     let h = header_from(r);
     let aca = h.aca;
-    let n = r[4] as usize;
-    if !used_fit(t, n, aca) {
-        return false;
-    }
-    if !unused_fit(t, n) {
-        return false;
-    }
-    names_fit(t, n)
+    records_fit(t, h.count as usize, aca)
 }

@@ -36,6 +36,11 @@ pub split {ℓ} : {P : Type ℓ} (b : Bool) → (b ≡ true → P) → (b ≡ fa
 split true f g = f refl
 split false f g = g refl
 
+pub same-truth : (a b : Bool) → (a ≡ true → b ≡ true) → (b ≡ true → a ≡ true) → a ≡ b
+same-truth true b f g = sym (f refl)
+same-truth false true f g = g refl
+same-truth false false f g = refl
+
 pub one-both : (b : Bool) → one-if b + one-if (not b) ≡ 1
 one-both true = refl
 one-both false = refl

@@ -1,6 +1,6 @@
 -- A good table is the writing of the state that it says, and the writing of a well-formed state is a good table.
 use Prim.Native.Nat.{ℕ, zero, suc, _+_, _-_, _*_, _≤_, _<_}
-use mathlib.Core.Bool.{true, _&&_}
+use mathlib.Core.Bool.{true}
 use mathlib.Core.Path.{_≡_, refl, ap, sym, _∙_}
 use mathlib.Core.List.{List, [], _∷_, _++_, append-assoc, append-nil}
 use native.Mathlib.Omega.{arith}
@@ -15,7 +15,7 @@ use Rattle.rules.specs.Tasks.{nexuses}
 use Rattle.rules.specs.Well.{wellFormed}
 use Rattle.rules.proofs.WellKept.{Tested, to-tested}
 use Rattle.records.specs.Numbers.{attributeFits, stateFits, policyFits, pendingFits}
-use Rattle.records.specs.Records.{headerBytes, headerFrom, headerFits, nexusBytes, nexusRestFits, nexusFits, pendingIn, taskBytes, taskFrom, taskRestFits, taskFits, unusedBytes, unusedFits}
+use Rattle.records.specs.Records.{headerBytes, headerFrom, headerFits, nexusBytes, nexusFits, pendingIn, taskBytes, taskFrom, taskFits, unusedBytes, unusedFits}
 use Rattle.records.specs.Tables.{Bytes, tasksFrom, pendingsFrom, stateOf, nexusRecords, unusedRecords, tableBytes, nexusesFit, tasksFit, unusedFit, goodTable}
 use Rattle.records.proofs.Eight.{record-bytes}
 use Rattle.records.proofs.Values.{attribute-good, state-good, flag-good, aca-good, policy-good, pending-good, tag-high-good, tag-low-good}
@@ -31,7 +31,8 @@ module _ (a0 a1 a2 a3 a4 a5 a6 a7 : ℕ) where
   abbrev r : List ℕ
   r = a0 ∷ a1 ∷ a2 ∷ a3 ∷ a4 ∷ a5 ∷ a6 ∷ a7 ∷ []
 
-  header-bytes-good : headerFits r ≡ true → headerBytes (headerFrom r) ≡ r
+  -- and the ranges of a header's fields
+  header-bytes-good : headerFits r ≡ true → (headerBytes (headerFrom r) ≡ r) × (a4 ≤ 64) × (a5 ≤ 8) × (a6 ≤ 4)
   header-bytes-good e =
       let o7 = and-true _ (eqb a7 0) e in
       let o6 = and-true _ (leb a6 4) (o7 .0) in
@@ -39,37 +40,32 @@ module _ (a0 a1 a2 a3 a4 a5 a6 a7 : ℕ) where
       let o4 = and-true _ (leb a4 64) (o5 .0) in
       let o3 = and-true _ (policyFits a3) (o4 .0) in
       let o2 = and-true _ (eqb a2 1) (o3 .0) in
-      let o1 = and-true (eqb a0 0x54) (eqb a1 0x48) (o2 .0) in
-      rw (eqb-true a0 0x54 (o1 .0), eqb-true a1 0x48 (o1 .1), eqb-true a2 1 (o2 .1), eqb-true a7 0 (o7 .1), policy-good a3 (o3 .1), aca-good a5)
-
-  -- the ranges of a header's fields
-  header-ranges : headerFits r ≡ true → (a4 ≤ 64) × (a5 ≤ 8) × (a6 ≤ 4)
-  header-ranges e =
-      let o7 = and-true _ (eqb a7 0) e in
-      let o6 = and-true _ (leb a6 4) (o7 .0) in
-      let o5 = and-true _ (leb a5 8) (o6 .0) in
-      let o4 = and-true (eqb a0 0x54 && eqb a1 0x48 && eqb a2 1 && policyFits a3) (leb a4 64) (o5 .0) in
-      (leb-true a4 64 (o4 .1), leb-true a5 8 (o5 .1), leb-true a6 4 (o6 .1))
+      let o1 = and-true (eqb a0 0x54) (eqb a1 0x48) (o2 .0) in (
+        rw (eqb-true a0 0x54 (o1 .0), eqb-true a1 0x48 (o1 .1), eqb-true a2 1 (o2 .1), eqb-true a7 0 (o7 .1), policy-good a3 (o3 .1), aca-good a5),
+        leb-true a4 64 (o4 .1),
+        leb-true a5 8 (o5 .1),
+        leb-true a6 4 (o6 .1),
+      )
 
   nexus-bytes-good : (i : ℕ) → nexusFits i r ≡ true → nexusBytes i (pendingIn r) ≡ r
   nexus-bytes-good i e =
-      let o = and-true (pendingFits a3) (nexusRestFits i r) e in
-      let o7 = and-true _ (eqb a7 0) (o .1) in
+      let o7 = and-true _ (eqb a7 0) e in
       let o6 = and-true _ (eqb a6 0) (o7 .0) in
       let o5 = and-true _ (eqb a5 0) (o6 .0) in
       let o4 = and-true _ (eqb a4 0) (o5 .0) in
-      let o2 = and-true _ (eqb a2 i) (o4 .0) in
+      let o3 = and-true _ (pendingFits a3) (o4 .0) in
+      let o2 = and-true _ (eqb a2 i) (o3 .0) in
       let o1 = and-true (eqb a0 0x54) (eqb a1 0x4E) (o2 .0) in
-      rw (pending-good a3 (o .0), eqb-true a0 0x54 (o1 .0), eqb-true a1 0x4E (o1 .1), eqb-true a2 i (o2 .1), eqb-true a4 0 (o4 .1), eqb-true a5 0 (o5 .1), eqb-true a6 0 (o6 .1), eqb-true a7 0 (o7 .1))
+      rw (pending-good a3 (o3 .1), eqb-true a0 0x54 (o1 .0), eqb-true a1 0x4E (o1 .1), eqb-true a2 i (o2 .1), eqb-true a4 0 (o4 .1), eqb-true a5 0 (o5 .1), eqb-true a6 0 (o6 .1), eqb-true a7 0 (o7 .1))
 
   task-bytes-good : a7 < 256 → taskFits r ≡ true → taskBytes (taskFrom r) ≡ r
   task-bytes-good low e =
-      let o = and-true (ltb a2 8) _ e in
-      let o5 = and-true (ltb a5 2) (taskRestFits r) (o .1) in
-      let o4 = and-true _ (stateFits a4) (o5 .1) in
+      let o5 = and-true _ (ltb a5 2) e in
+      let o4 = and-true _ (stateFits a4) (o5 .0) in
       let o3 = and-true _ (attributeFits a3) (o4 .0) in
-      let o1 = and-true (eqb a0 0x54) (eqb a1 0x54) (o3 .0) in
-      rw (attribute-good a3 (o3 .1), state-good a4 (o4 .1), flag-good a5 (ltb-true a5 2 (o5 .0)), tag-high-good a6 a7 low, tag-low-good a6 a7 low, eqb-true a0 0x54 (o1 .0), eqb-true a1 0x54 (o1 .1))
+      let o2 = and-true _ (ltb a2 8) (o3 .0) in
+      let o1 = and-true (eqb a0 0x54) (eqb a1 0x54) (o2 .0) in
+      rw (attribute-good a3 (o3 .1), state-good a4 (o4 .1), flag-good a5 (ltb-true a5 2 (o5 .1)), tag-high-good a6 a7 low, tag-low-good a6 a7 low, eqb-true a0 0x54 (o1 .0), eqb-true a1 0x54 (o1 .1))
 
   unused-bytes-good : unusedFits r ≡ true → unusedBytes ≡ r
   unused-bytes-good e =
@@ -88,8 +84,12 @@ by-bytes : (P : List ℕ → Type 0) (l : List ℕ) → 8 ≤ length l
 by-bytes P l h p = rw (eight l h) p
 
 module _ (l : List ℕ) (long : 8 ≤ length l) where
-  pub header-good : headerFits (take 8 l) ≡ true → headerBytes (headerFrom (take 8 l)) ≡ take 8 l
-  header-good = by-bytes (λ r. headerFits r ≡ true → headerBytes (headerFrom r) ≡ r) l long (header-bytes-good _ _ _ _ _ _ _ _)
+  pub header-good :
+      headerFits (take 8 l) ≡ true
+      → (headerBytes (headerFrom (take 8 l)) ≡ take 8 l) × (getD l 4 0 ≤ 64) × (getD l 5 0 ≤ 8) × (getD l 6 0 ≤ 4)
+  header-good =
+      by-bytes (λ r. headerFits r ≡ true → (headerBytes (headerFrom r) ≡ r) × (getD l 4 0 ≤ 64) × (getD l 5 0 ≤ 8) × (getD l 6 0 ≤ 4)) l long
+      (header-bytes-good _ _ _ _ _ _ _ _)
 
   pub nexus-good : (i : ℕ) → nexusFits i (take 8 l) ≡ true → nexusBytes i (pendingIn (take 8 l)) ≡ take 8 l
   nexus-good i = by-bytes (λ r. nexusFits i r ≡ true → nexusBytes i (pendingIn r) ≡ r) l long (nexus-bytes-good _ _ _ _ _ _ _ _ i)
@@ -190,28 +190,23 @@ unfolding goodTable
 tested-table b w =
     rw (eq-eqb (length b) 584 (w .long), w .header, w .nexuses, w .used, w .unused, w .well)
 
-pub header-fields : (b : List ℕ) → 8 ≤ length b → headerFits (recordAt 8 b 0) ≡ true → (getD b 4 0 ≤ 64) × (getD b 5 0 ≤ 8) × (getD b 6 0 ≤ 4)
-header-fields b h =
-    by-bytes (λ r. headerFits r ≡ true → (getD b 4 0 ≤ 64) × (getD b 5 0 ≤ 8) × (getD b 6 0 ≤ 4)) b h (header-ranges (getD b 0 0) (getD b 1 0) (getD b 2 0) (getD b 3 0) (getD b 4 0) (getD b 5 0) (getD b 6 0) (getD b 7 0))
-
 -- a good table is the writing of the state that it says
 pub table-good : (b : List ℕ) → Bytes b → goodTable b ≡ true → tableBytes (stateOf b) ≡ b
 unfolding tableBytes stateOf
 table-good b by e =
     let w = table-tested b e in
     let n = getD b 4 0 in
-    let few : n ≤ 64 = header-fields b (omega (arith, w .long)) (w .header) .0 in
-    let hd : headerBytes (headerFrom (recordAt 8 b 0)) ≡ take 8 b = header-good b (omega (arith, w .long)) (w .header) in
+    let hd = header-good b (omega (arith, w .long)) (w .header) in
     let nx : nexusRecords 0 (pendingsFrom 8 (drop 8 b)) ++ drop 64 (drop 8 b) ≡ drop 8 b =
     nexuses-good 8 0 (drop 8 b) (simp length-drop (omega (arith, w .long))) (w .nexuses)
     in
     let ts : joined taskBytes (tasksFrom n (drop 72 b)) ++ drop (8 * n) (drop 72 b) ≡ drop 72 b =
     tasks-good n (drop 72 b) (bytes-drop b 72 by) (simp length-drop (omega (arith, w .long))) (w .used)
     in
-    let un : unusedRecords (64 - n) ≡ drop (8 * n) (drop 72 b) = last n few (w .long) (w .unused) in
+    let un : unusedRecords (64 - n) ≡ drop (8 * n) (drop 72 b) = last n (hd .1) (w .long) (w .unused) in
     let P = nexusRecords 0 (pendingsFrom 8 (drop 8 b)) in
     let T = tasksFrom n (drop 72 b) in
-    ap (λ (z : List ℕ). z ++ (P ++ (joined taskBytes T ++ unusedRecords (64 - length T)))) hd
+    ap (λ (z : List ℕ). z ++ (P ++ (joined taskBytes T ++ unusedRecords (64 - length T)))) (hd .0)
     ∙ ap (λ (m : ℕ). take 8 b ++ (P ++ (joined taskBytes T ++ unusedRecords (64 - m)))) (length-tasks-from n (drop 72 b))
     ∙ ap (λ (z : List ℕ). take 8 b ++ (P ++ (joined taskBytes T ++ z))) un
     ∙ ap (λ (z : List ℕ). take 8 b ++ (P ++ z)) (ts ∙ sym (drop-drop 64 8 b))

@@ -1,12 +1,17 @@
--- Laws of a loop over the task records.
+-- Laws of task records, for a loop over them.
 use Prim.Native.Nat.{ℕ, suc, _+_, _-_, _*_, _≤_, _<_}
+use mathlib.Core.Bool.{true}
 use mathlib.Core.Path.{_≡_}
 use mathlib.Core.List.{List, [], _∷_}
 use native.Mathlib.Omega.{arith}
-use lib.ListN.{drop}
+use lib.Dec.{ltb}
+use lib.ListN.{getD, drop}
 use lib.Seq.{drop-drop}
+use borrow.Author.Tests.{ltb-true}
 use Rattle.laws.specs.Records.{recordAt}
-use Rattle.records.specs.Records.{taskFrom}
+use Rattle.laws.proofs.Bools.{and-true}
+use Rattle.records.specs.Numbers.{attributeFits, stateFits}
+use Rattle.records.specs.Records.{marked, taskFrom, taskFits}
 use Rattle.records.specs.Tables.{tasksFrom}
 
 pub tasks-next :
@@ -21,3 +26,10 @@ tasks-next n i b h =
 pub tasks-end : (n i : ℕ) (l : List ℕ) → n ≤ i → tasksFrom (n - i) l ≡ []
 unfolding tasksFrom
 tasks-end n i l h = let e : n - i ≡ 0 = omega arith in rw e
+
+pub task-nexus-low : (r : List ℕ) → taskFits r ≡ true → getD r 2 0 < 8
+task-nexus-low r e =
+    let o5 = and-true _ (ltb (getD r 5 0) 2) e in
+    let o4 = and-true _ (stateFits (getD r 4 0)) (o5 .0) in
+    let o3 = and-true _ (attributeFits (getD r 3 0)) (o4 .0) in
+    ltb-true (getD r 2 0) 8 (and-true (marked r 0x54) (ltb (getD r 2 0) 8) (o3 .0) .1)

@@ -45,12 +45,10 @@ nexusBytes i p = 0x54 ∷ 0x4E ∷ i ∷ pendingNumber p ∷ 0 ∷ 0 ∷ 0 ∷ 0
 abbrev pub pendingIn : List ℕ → Pending
 pendingIn r = pendingFrom (getD r 3 0)
 
-abbrev pub nexusRestFits : ℕ → List ℕ → Bool
-nexusRestFits i r =
-    marked r 0x4E && eqb (getD r 2 0) i && eqb (getD r 4 0) 0 && eqb (getD r 5 0) 0 && eqb (getD r 6 0) 0 && eqb (getD r 7 0) 0
-
 abbrev pub nexusFits : ℕ → List ℕ → Bool
-nexusFits i r = pendingFits (getD r 3 0) && nexusRestFits i r
+nexusFits i r =
+    marked r 0x4E && eqb (getD r 2 0) i && pendingFits (getD r 3 0) && eqb (getD r 4 0) 0 && eqb (getD r 5 0) 0 && eqb (getD r 6 0) 0
+    && eqb (getD r 7 0) 0
 
 -- "task | 54 54 | nexus; attribute; state; control (bit 0 NACA); tag, 2 bytes"; "Tags are big-endian."
 abbrev pub taskBytes : Task → List ℕ
@@ -75,12 +73,10 @@ taskFrom r =
       tag = tagFrom (getD r 6 0) (getD r 7 0);
     }
 
-abbrev pub taskRestFits : List ℕ → Bool
-taskRestFits r = marked r 0x54 && attributeFits (getD r 3 0) && stateFits (getD r 4 0)
-
 -- "A task's nexus is 0 to 7."; "Bits 1 to 7 of a task's control byte are 0."
 abbrev pub taskFits : List ℕ → Bool
-taskFits r = ltb (getD r 2 0) 8 && (ltb (getD r 5 0) 2 && taskRestFits r)
+taskFits r =
+    marked r 0x54 && ltb (getD r 2 0) 8 && attributeFits (getD r 3 0) && stateFits (getD r 4 0) && ltb (getD r 5 0) 2
 
 -- "Unused ones are 54 54 and six zeros."
 abbrev pub unusedBytes : List ℕ

@@ -7,7 +7,9 @@ ghost use lib.ListN.{length};
 ghost use Rattle.laws.specs.Records.{recordAt, putAt};
 ghost use Rattle.records.specs.Numbers.{flag, bitOf, tagFrom};
 ghost use Rattle.records.specs.Records.{marked};
+ghost use Rattle.records.specs.Words.{halfOf, FourBytes, IsWord};
 
+// One by one, so that the compiler reads those that are used.
 pub fn get8(b: &[u8], at: usize) -> [u8; 8]
     requires { ⌜ at + 8 ≤ length (now b) ⌝ }
     ensures { λ r. ⌜ r ≡ recordAt 8 (now (b .entry)) at ⌝ }
@@ -24,6 +26,18 @@ pub fn get8(b: &[u8], at: usize) -> [u8; 8]
     ]
 }
 
+// The same in a loop, which the compiler makes one reading of: for records of which every byte is looked at.
+pub fn load8(b: &[u8], at: usize) -> [u8; 8]
+    requires { ⌜ at + 8 ≤ length (now b) ⌝ }
+    ensures { λ r. ⌜ r ≡ recordAt 8 (now (b .entry)) at ⌝ }
+{
+    let mut r = [0u8; 8];
+    for k in 0..8 {
+        r[k] = b[at + k];
+    }
+    r
+}
+
 pub fn put8(b: &mut [u8], at: usize, r: [u8; 8])
     requires { ⌜ at + 8 ≤ length (now b) ⌝ }
     ensures { λ _. ⌜ now (b .exit) ≡ putAt 8 (now (b .entry)) at r ⌝ }
@@ -37,6 +51,20 @@ pub fn is_marked(r: [u8; 8], m: u8) -> bool
     ensures { λ y. ⌜ y ≡ marked r m ⌝ }
 {
     (r[0] == 0x54) & (r[1] == m)
+}
+
+fn half_of(a: u8, b: u8, c: u8, d: u8) -> u32
+    ensures { λ w. ⌜ (w ≡ halfOf a b c d) × FourBytes a b c d ⌝ }
+{
+    (a as u32) + (b as u32) * 0x100 + (c as u32) * 0x0001_0000 + (d as u32) * 0x0100_0000
+}
+
+pub fn word_of(r: [u8; 8]) -> u64
+    ensures { λ w. ⌜ IsWord r w ⌝ }
+{
+    let low = half_of(r[0], r[1], r[2], r[3]);
+    let high = half_of(r[4], r[5], r[6], r[7]);
+    (low as u64) + (high as u64) * 0x0001_0000_0000
 }
 
 pub fn flag_byte(f: bool) -> u8

@@ -1,11 +1,11 @@
 // The nexus records: pending bits.
 use crate::bytes::bit_of;
 use crate::bytes::flag_byte;
-use crate::bytes::is_marked;
+use crate::bytes::word_of;
 use values::Pending;
 ghost use mathlib.Core.Path.{_≡_};
 ghost use Rattle.records.specs.Numbers.{pendingNumber, pendingFrom};
-ghost use Rattle.records.specs.Records.{nexusBytes, nexusRestFits, nexusFits};
+ghost use Rattle.records.specs.Records.{nexusBytes, nexusFits};
 
 pub fn pending_from(n: u8) -> Pending
     ensures { λ y. ⌜ y ≡ pendingFrom n ⌝ }
@@ -29,20 +29,12 @@ pub fn pending_number(p: Pending) -> u8
         + flag_byte(p.cleared) * 16
 }
 
-fn rest_fits(r: [u8; 8], n: u8) -> bool
-    ensures { λ y. ⌜ y ≡ nexusRestFits n r ⌝ }
-{
-    is_marked(r, 0x4E) & (r[2] == n) & (r[4] == 0) & (r[5] == 0) & (r[6] == 0) & (r[7] == 0)
-}
-
-// The range first: joined to the equalities it is compiled badly.
+// As one number, so that the compiler compares the record once: below 2^29 are the first three bytes and five bits of the fourth.
 pub fn nexus_fits(r: [u8; 8], n: u8) -> bool
     ensures { λ y. ⌜ y ≡ nexusFits n r ⌝ }
 {
-    if 32 <= r[3] {
-        return false;
-    }
-    rest_fits(r, n)
+    let w = word_of(r);
+    (w < 0x2000_0000) & (w % 0x0100_0000 == 0x4E54 + 0x0001_0000 * (n as u64))
 }
 
 pub fn nexus_bytes(n: u8, p: Pending) -> [u8; 8]

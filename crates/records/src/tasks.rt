@@ -4,13 +4,15 @@ use crate::bytes::is_marked;
 use crate::bytes::tag_from;
 use crate::bytes::tag_high;
 use crate::bytes::tag_low;
+use crate::bytes::word_of;
 use values::Attribute;
 use values::Tag;
 use values::Task;
 use values::TaskState;
 ghost use mathlib.Core.Path.{_≡_};
+ghost use lib.Dec.{eqb};
 ghost use Rattle.records.specs.Numbers.{attributeNumber, attributeFits, attributeFrom, stateNumber, stateFits, stateFrom};
-ghost use Rattle.records.specs.Records.{taskBytes, taskFrom, taskFits, taskRestFits, unusedFits, unusedBytes, endedBytes};
+ghost use Rattle.records.specs.Records.{taskBytes, taskFrom, taskFits, unusedFits, unusedBytes, endedBytes};
 
 pub fn attribute_fits(n: u8) -> bool
     ensures { λ y. ⌜ y ≡ attributeFits n ⌝ }
@@ -66,23 +68,10 @@ pub fn state_number(s: TaskState) -> u8
     }
 }
 
-fn rest_fits(r: [u8; 8]) -> bool
-    ensures { λ y. ⌜ y ≡ taskRestFits r ⌝ }
-{
-    is_marked(r, 0x54) & attribute_fits(r[3]) & state_fits(r[4])
-}
-
-// The ranges first: joined to the equalities they are compiled badly.
 pub fn task_fits(r: [u8; 8]) -> bool
     ensures { λ y. ⌜ y ≡ taskFits r ⌝ }
 {
-    if 8 <= r[2] {
-        return false;
-    }
-    if 2 <= r[5] {
-        return false;
-    }
-    rest_fits(r)
+    is_marked(r, 0x54) & (r[2] < 8) & attribute_fits(r[3]) & state_fits(r[4]) & (r[5] < 2)
 }
 
 pub fn task_from(r: [u8; 8]) -> Task
@@ -114,17 +103,11 @@ pub fn task_bytes(t: Task) -> [u8; 8]
     ]
 }
 
-pub fn unused_fits(r: [u8; 8]) -> bool
-    ensures { λ y. ⌜ y ≡ unusedFits r ⌝ }
+// 0 where the record is an unused one. As a number, so that of many records the compiler looks at several at once.
+pub fn unlike_unused(r: [u8; 8]) -> u64
+    ensures { λ d. ⌜ eqb d 0 ≡ unusedFits r ⌝ }
 {
-    (r[0] == 0x54)
-        & (r[1] == 0x54)
-        & (r[2] == 0)
-        & (r[3] == 0)
-        & (r[4] == 0)
-        & (r[5] == 0)
-        & (r[6] == 0)
-        & (r[7] == 0)
+    word_of(r) ^ 0x5454
 }
 
 pub fn unused_bytes() -> [u8; 8]

@@ -32,7 +32,7 @@ nexuses-fit-spec =
     let fits = c .before .nexus-fits in
     (rw (
       nexuses-next (at .before .before .args .t .now) (at .loop .n) (c .before .before .before .loop-test .taken),
-      ← c .before .before .get8 .ensures,
+      ← c .before .before .load8 .ensures,
       ← fits .ensures,
       not-true (fits .result) (c .if1 .taken),
     )
@@ -45,7 +45,7 @@ nexuses-fit-spec =
       omega arith,
       (rw (
         nexuses-next (at .before .before .args .t .now) (at .loop .n) (c .before .before .before .loop-test .taken),
-        ← c .before .before .get8 .ensures,
+        ← c .before .before .load8 .ensures,
         ← fits .ensures,
         not-false (fits .result) (c .if1 .left),
       )

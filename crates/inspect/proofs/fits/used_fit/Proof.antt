@@ -38,7 +38,7 @@ used-fit-spec =
     let fits = c .before .fits2 in
     (rw (
       used-next (args .t .now) (args .n) (at .loop .i) (c .before .before .before .before .loop-test .taken) (args .aca) (at .loop .o),
-      ← c .before .before .before .get8 .ensures,
+      ← c .before .before .before .load8 .ensures,
       ← c .before .before .task-from .ensures,
       ← fits .ensures,
       not-true (fits .result) (c .if1 .taken),
@@ -52,7 +52,7 @@ used-fit-spec =
     let good = c .before .task-fits in
     (rw (
       used-next (args .t .now) (args .n) (at .loop .i) (c .before .before .before .before .before .before .loop-test .taken) (args .aca) (at .loop .o),
-      ← c .before .before .before .before .before .get8 .ensures,
+      ← c .before .before .before .before .before .load8 .ensures,
       ← good .ensures,
       not-true (good .result) (c .if2 .taken),
     )
@@ -70,7 +70,7 @@ used-fit-spec =
       rw (c .behind .ensures, read .ensures)
           (rw (
             used-next (args .t .now) (args .n) (at .loop .i) (c .before .before .before .before .before .before .before .loop-test .taken) (args .aca) (at .loop .o),
-            ← c .before .before .before .before .before .before .get8 .ensures,
+            ← c .before .before .before .before .before .before .load8 .ensures,
             ← good .ensures,
             not-false (good .result) (c .before .if2 .left),
             ← read .ensures,
