@@ -19,17 +19,18 @@ play-all-spec =
     Inv-loop
     μ-loop
     (λ c. (refl, refl, refl, refl))
-    (λ c κs. rw (c .before .before .before .before .before .loop .inv .2, c .before .before .before .before .before .loop .inv .3) (c .before .before .before .before .before .before .before .before .before .before .pre))
+    (λ c κs. let turn = c .before .before .before .before .before in rw (turn .loop .inv .2, turn .loop .inv .3) (turn .before .before .before .before .before .pre))
     (λ c. omega arith)
     (λ c. omega arith)
     (λ c.
-    let kept = c .before .before .before .before .before .before .before .before .before .play-some .kept in
-    let inv = c .before .before .before .before .before .before .before .before .before .before .before .before .before .before .before .loop .inv in
+    let some = c .before .before .before .before .before .before .before .before .before in
+    let kept = some .play-some .kept in
+    let inv = some .before .before .before .before .before .before .loop .inv in
     (kept .0 ∙ inv .0, kept .1 .0 ∙ inv .1, kept .1 .1 .0 ∙ inv .2, kept .1 .1 .1 .0 ∙ inv .3))
-    (λ c. c .before .before .before .before .before .before .before .before .before .play-some .kept .0 ∙ c .before .before .before .before .before .before .before .before .before .before .before .before .before .before .before .loop .inv .0)
-    (λ c. c .before .before .before .before .before .before .before .before .before .play-some .kept .1 .0 ∙ c .before .before .before .before .before .before .before .before .before .before .before .before .before .before .before .loop .inv .1)
-    (λ c. c .before .before .before .before .before .before .before .before .before .play-some .kept .1 .1 .0 ∙ c .before .before .before .before .before .before .before .before .before .before .before .before .before .before .before .loop .inv .2)
-    (λ c. c .before .before .before .before .before .before .before .before .before .play-some .kept .1 .1 .1 .0 ∙ c .before .before .before .before .before .before .before .before .before .before .before .before .before .before .before .loop .inv .3)
+    (λ c. let some = c .before .before .before .before .before .before .before .before .before in some .play-some .kept .0 ∙ some .before .before .before .before .before .before .loop .inv .0)
+    (λ c. let some = c .before .before .before .before .before .before .before .before .before in some .play-some .kept .1 .0 ∙ some .before .before .before .before .before .before .loop .inv .1)
+    (λ c. let some = c .before .before .before .before .before .before .before .before .before in some .play-some .kept .1 .1 .0 ∙ some .before .before .before .before .before .before .loop .inv .2)
+    (λ c. let some = c .before .before .before .before .before .before .before .before .before in some .play-some .kept .1 .1 .1 .0 ∙ some .before .before .before .before .before .before .loop .inv .3)
     (λ c. search needs)
     (λ c. c .before .loop .inv .0)
     (λ c. c .before .loop .inv .1)

@@ -12,21 +12,26 @@ put-decimal-spec =
     (λ c κs. search needs)
     (λ c. search needs)
     (λ c.
-    let written = c .before .before .put .ensures in
-    let start = c .before .before .before .before .before .before .before in
-    (rw (decimal-one (start .args .n) (c .before .before .before .before .before .if1 .taken)) (rw (c .before .before .before .digit .ensures) at written), omega (arith, written .ends)))
+    let put = c .before .before in
+    let digit = put .before in
+    let tested = digit .before .before in
+    let written = put .put .ensures in
+    (rw (decimal-one (tested .before .before .args .n) (tested .if1 .taken)) (rw (digit .digit .ensures) at written), omega (arith, written .ends)))
     (λ c κs. search needs)
     (λ c κs. search needs)
     (λ c κs. search needs)
     (λ c κs. search needs)
     (λ c. search needs)
     (λ c.
-    let second = c .before .before .put3 .ensures in
-    let first = c .before .before .before .before .before .before .before .put2 .ensures in
-    let start = c .before .before .before .before .before .before .before .before .before .before .before .before .before in (
-      rw (decimal-two (start .args .n) (c .before .before .before .before .before .before .before .before .before .before .before .if1 .left) (c .before .before .before .before .before .before .before .before .before .before .if2 .taken))
-          (put-both (rw (c .before .before .before .before .before .before .before .before .digit2 .ensures) at first) (rw (c .before .before .before .digit3 .ensures) at second)),
-      omega (arith, first .ends, second .ends),
+    let second = c .before .before in
+    let first = second .before .before .before .before .before in
+    let small = first .before .before .before in
+    let large = small .before in
+    let one = first .put2 .ensures in
+    let two = second .put3 .ensures in (
+      rw (decimal-two (large .before .before .args .n) (large .if1 .left) (small .if2 .taken))
+          (put-both (rw (first .before .digit2 .ensures) at one) (rw (second .before .digit3 .ensures) at two)),
+      omega (arith, one .ends, two .ends),
     ))
     (λ c κs. search needs)
     (λ c κs. search needs)
@@ -36,11 +41,16 @@ put-decimal-spec =
     (λ c κs. search needs)
     (λ c. search needs)
     (λ c.
-    let third = c .before .before .put6 .ensures in
-    let second = c .before .before .before .before .before .before .before .put5 .ensures in
-    let first = c .before .before .before .before .before .before .before .before .before .before .before .before .put4 .ensures in
-    let start = c .before .before .before .before .before .before .before .before .before .before .before .before .before .before .before .before .before .before in (
-      rw (decimal-three (start .args .n) (c .before .before .before .before .before .before .before .before .before .before .before .before .before .before .before .before .if1 .left) (c .before .before .before .before .before .before .before .before .before .before .before .before .before .before .before .if2 .left))
-          (put-both (put-both (rw (c .before .before .before .before .before .before .before .before .before .before .before .before .before .digit4 .ensures) at first) (rw (c .before .before .before .before .before .before .before .before .digit5 .ensures) at second)) (rw (c .before .before .before .digit6 .ensures) at third)),
-      omega (arith, first .ends, second .ends, third .ends),
+    let third = c .before .before in
+    let second = third .before .before .before .before .before in
+    let first = second .before .before .before .before .before in
+    let huge = first .before .before .before in
+    let large = huge .before in
+    let one = first .put4 .ensures in
+    let two = second .put5 .ensures in
+    let three = third .put6 .ensures in (
+      rw (decimal-three (large .before .before .args .n) (large .if1 .left) (huge .if2 .left))
+          (put-both (put-both (rw (first .before .digit4 .ensures) at one) (rw (second .before .digit5 .ensures) at two))
+          (rw (third .before .digit6 .ensures) at three)),
+      omega (arith, one .ends, two .ends, three .ends),
     )))

@@ -14,5 +14,8 @@ put-hex-spec =
     (λ c κs. search needs)
     (λ c. search needs)
     (λ c.
-    put-both (put-both (c .before .before .before .before .before .before .before .before .before .before .before .before .put .ensures) (rw (c .before .before .before .before .before .before .before .before .digit .ensures) at (c .before .before .before .before .before .before .before .put2 .ensures)))
-    (rw (c .before .before .before .digit2 .ensures) at (c .before .before .put3 .ensures))))
+    let third = c .before .before in
+    let second = third .before .before .before .before .before in
+    let first = second .before .before .before .before .before in
+    put-both (put-both (first .put .ensures) (rw (second .before .digit .ensures) at (second .put2 .ensures)))
+    (rw (third .before .digit2 .ensures) at (third .put3 .ensures))))

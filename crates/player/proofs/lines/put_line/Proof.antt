@@ -18,14 +18,22 @@ put-line-spec =
     (λ c κs. search needs)
     (λ c. search needs)
     (λ c.
-    let answer = c .before .before .before .before .before .before .before .before .before .before .before .before .before .before .before .before .before .before .before .before .before .before .before .before .before .before .before .before .before .before .put-decimal .ensures .0 in
-    let status = c .before .before .before .before .before .before .before .before .before .before .before .before .before .before .before .before .before .before .before .before .before .before .before .before .before .before .put-hex .ensures in
-    let key = c .before .before .before .before .before .before .before .before .before .before .before .before .before .before .before .before .before .before .before .before .before .before .put-hex2 .ensures in
-    let code = c .before .before .before .before .before .before .before .before .before .before .before .before .before .before .before .before .before .before .put-hex3 .ensures in
-    let qualifier = c .before .before .before .before .before .before .before .before .before .before .before .before .before .before .put-hex4 .ensures in
-    let space = c .before .before .before .before .before .before .before .before .before .before .put .ensures in
-    let ended = c .before .before .before .before .before .before .put-decimal2 .ensures .0 in
-    let feed = c .before .before .put2 .ensures in (
-      put-all (c .before .before .before .before .before .before .before .before .before .before .before .before .before .before .before .before .before .before .before .before .before .before .before .before .before .before .before .before .before .before .before .before .before .args .a) answer status key code qualifier space ended feed,
-      omega (arith, c .before .before .before .before .before .before .before .before .before .before .before .before .before .before .before .before .before .before .before .before .before .before .before .before .before .before .before .before .before .before .put-decimal .ensures .1, status .ends, key .ends, code .ends, qualifier .ends, space .ends, c .before .before .before .before .before .before .put-decimal2 .ensures .1, feed .ends),
+    let feed = c .before .before in
+    let ended = feed .before .before .before .before in
+    let space = ended .before .before .before .before in
+    let qualifier = space .before .before .before .before in
+    let code = qualifier .before .before .before .before in
+    let key = code .before .before .before .before in
+    let status = key .before .before .before .before in
+    let answer = status .before .before .before .before in
+    let a0 = answer .put-decimal .ensures in
+    let a1 = status .put-hex .ensures in
+    let a2 = key .put-hex2 .ensures in
+    let a3 = code .put-hex3 .ensures in
+    let a4 = qualifier .put-hex4 .ensures in
+    let a5 = space .put .ensures in
+    let a6 = ended .put-decimal2 .ensures in
+    let a7 = feed .put2 .ensures in (
+      put-all (answer .before .before .before .args .a) (a0 .0) a1 a2 a3 a4 a5 (a6 .0) a7,
+      omega (arith, a0 .1, a1 .ends, a2 .ends, a3 .ends, a4 .ends, a5 .ends, a6 .1, a7 .ends),
     )))

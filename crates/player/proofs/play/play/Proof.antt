@@ -32,25 +32,40 @@ play-spec =
     Inv-loop
     μ-loop
     (λ c. omega arith)
-    (λ c. let args = c .before .before .before .before .args in record { played-on = begun (pieces (length (args .events .now))) (args .table .now) (args .report .now) (args .events .now); table-long = refl; report-long = refl; out-long = refl; room = omega arith; passed = omega arith })
+    (λ c.
+    let args = c .before .before .before .before .args in
+    record {
+      played-on = begun (pieces (length (args .events .now))) (args .table .now) (args .report .now) (args .events .now);
+      table-long = refl;
+      report-long = refl;
+      out-long = refl;
+      room = omega arith;
+      passed = omega arith;
+    })
     (λ c. omega arith)
     (λ c. omega arith)
     (λ c κs. search needs)
     (λ c. omega (arith, c .before .before .least .ensures))
     (λ c. omega (arith, c .before .before .least .ensures))
     (λ c. omega (arith, c .before .before .least .ensures))
-    (λ c κs. omega (arith, c .before .before .before .before .before .before .loop .inv .room, c .before .before .before .before .before .before .loop .inv .out-long, c .before .before .before .before .before .before .before .before .before .before .before .pre))
+    (λ c κs.
+    let turn = c .before .before .before .before .before .before in
+    omega (arith, turn .loop .inv .room, turn .loop .inv .out-long, turn .before .before .before .before .before .pre))
     (λ c. omega arith)
     (λ c. omega arith)
     (λ c.
-    let one = c .before .before .before .before .before .before .play-one in
-    let loop = c .before .before .before .before .before .before .before .before .before .before .before .before .before .loop in
+    let passed = c .before .before .before .before .before .before in
+    let least = passed .before .before .before .before .before in
+    let turn = least .before .before in
+    let one = passed .play-one in
+    let loop = turn .loop in
     let inv = loop .inv in
-    let args = c .before .before .before .before .before .before .before .before .before .before .before .before .before .before .before .before .before .before .args in
+    let args = turn .before .before .before .before .before .args in
     let es = args .events .now in
     let inside : loop .i < pieces (length es) = omega arith in
     record {
-      played-on = onward es (loop .table) (loop .report) (pieces (length es)) (loop .i) inside (piece es (8 * loop .i) (c .before .before .before .before .before .before .before .before .before .before .before .least .result) (omega arith) (c .before .before .before .before .before .before .before .before .before .before .before .least .ensures)) (one .ensures .0) (one .ensures .2) (one .ensures .3) (inv .played-on);
+      played-on = onward es (loop .table) (loop .report) (pieces (length es)) (loop .i) inside (piece es (8 * loop .i) (least .least .result) (omega arith) (least .least .ensures))
+          (one .ensures .0) (one .ensures .2) (one .ensures .3) (inv .played-on);
       table-long = one .kept .0 ∙ inv .table-long;
       report-long = one .kept .1 .0 ∙ inv .report-long;
       out-long = one .ensures .0 .long ∙ inv .out-long;

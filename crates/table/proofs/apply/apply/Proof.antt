@@ -15,17 +15,20 @@ apply-spec =
     (λ c. search needs)
     (λ c.
     let fits = c .before .before in
-    let start = fits .before .before .before .before .before in
-    refused-as (c .refuse .result) (start .args .t .now) (start .args .report .now)
-    (no-table (start .args .t .now) (start .args .report .now) (start .args .event .now) (sym (fits .table-fits .ensures) ∙ not-true (fits .table-fits .result) (c .before .if1 .taken)))
+    let args = fits .before .before .before .before .before .args in
+    refused-as (c .refuse .result) (args .t .now) (args .report .now)
+    (no-table (args .t .now) (args .report .now) (args .event .now) (sym (fits .table-fits .ensures) ∙ not-true (fits .table-fits .result) (c .before .if1 .taken)))
     (c .refuse .ensures))
     (λ c κs. search needs)
     (λ c. search needs)
     (λ c.
     let sized = c .before .before in
     let fits = sized .before in
-    let start = fits .before .before .before .before .before in
-    refused-as (c .refuse2 .result) (start .args .t .now) (start .args .report .now) (no-report (start .args .t .now) (start .args .report .now) (start .args .event .now) (sym (fits .table-fits .ensures) ∙ not-false (fits .table-fits .result) (sized .if1 .left)) (c .before .if2 .taken)) (c .refuse2 .ensures))
+    let good = sym (fits .table-fits .ensures) ∙ not-false (fits .table-fits .result) (sized .if1 .left) in
+    let args = fits .before .before .before .before .before .args in
+    refused-as (c .refuse2 .result) (args .t .now) (args .report .now)
+    (no-report (args .t .now) (args .report .now) (args .event .now) good (c .before .if2 .taken))
+    (c .refuse2 .ensures))
     (λ c κs. search needs)
     (λ c. search needs)
     (λ c. search needs)
@@ -35,9 +38,10 @@ apply-spec =
     let event = c .before .before .before in
     let sized = event .before .before in
     let fits = sized .before in
-    let start = fits .before .before .before .before .before in
-    refused-as (c .refuse3 .result) (start .args .t .now) (start .args .report .now)
-    (no-event (start .args .t .now) (start .args .report .now) (start .args .event .now) (sym (fits .table-fits .ensures) ∙ not-false (fits .table-fits .result) (sized .if1 .left)) (event .before .if2 .left) (sym (event .event-of .ensures) ∙ c .before .enum-told .given .1))
+    let good = sym (fits .table-fits .ensures) ∙ not-false (fits .table-fits .result) (sized .if1 .left) in
+    let args = fits .before .before .before .before .before .args in
+    refused-as (c .refuse3 .result) (args .t .now) (args .report .now)
+    (no-event (args .t .now) (args .report .now) (args .event .now) good (event .before .if2 .left) (sym (event .event-of .ensures) ∙ c .before .enum-told .given .1))
     (c .refuse3 .ensures))
     (λ c κs. search needs)
     (λ c κs. search needs)
@@ -48,9 +52,10 @@ apply-spec =
     let event = read .before .before in
     let sized = event .before .before in
     let fits = sized .before in
-    let start = fits .before .before .before .before .before in
-    refused-as (c .refuse4 .result) (start .args .t .now) (start .args .report .now)
-    (no-nexus (start .args .t .now) (start .args .report .now) (start .args .event .now) (sym (fits .table-fits .ensures) ∙ not-false (fits .table-fits .result) (sized .if1 .left)) (event .before .if2 .left) (read .e .given .0 .0) (sym (event .event-of .ensures) ∙ read .e .given .1)
+    let good = sym (fits .table-fits .ensures) ∙ not-false (fits .table-fits .result) (sized .if1 .left) in
+    let args = fits .before .before .before .before .before .args in
+    refused-as (c .refuse4 .result) (args .t .now) (args .report .now)
+    (no-nexus (args .t .now) (args .report .now) (args .event .now) good (event .before .if2 .left) (read .e .given .0 .0) (sym (event .event-of .ensures) ∙ read .e .given .1)
     (rw (nexus .nexus-of .ensures) at (c .before .if3 .taken)))
     (c .refuse4 .ensures))
     (λ c κs.
@@ -71,6 +76,7 @@ apply-spec =
     let event = read .before .before in
     let sized = event .before .before in
     let fits = sized .before in
-    let start = fits .before .before .before .before .before in
-    rw (ruled-on (start .args .t .now) (start .args .report .now) (start .args .event .now) (sym (fits .table-fits .ensures) ∙ not-false (fits .table-fits .result) (sized .if1 .left)) (event .before .if2 .left) (read .e .given .0 .0) (sym (event .event-of .ensures) ∙ read .e .given .1))
+    let good = sym (fits .table-fits .ensures) ∙ not-false (fits .table-fits .result) (sized .if1 .left) in
+    let args = fits .before .before .before .before .before .args in
+    rw (ruled-on (args .t .now) (args .report .now) (args .event .now) good (event .before .if2 .left) (read .e .given .0 .0) (sym (event .event-of .ensures) ∙ read .e .given .1))
     (on .on-event .ensures)))
