@@ -145,7 +145,7 @@ known-by h (Keeps a) i =
     record {
       present-below = present-by h [] [] i;
       ended-below = ended-by h [] [] i;
-      table = rw append-nil at (table-by h [] [] i);
+      table = rw (append-nil (h .state .tasks)) at (table-by h [] [] i);
       reports = reports-by h [] [] i;
     }
 known-by h (Changes a c) i =

@@ -8,4 +8,4 @@ aborted-by-spec =
     (tie.spec
     (λ c κs. search needs)
     (λ c κs. search needs)
-    (λ c. simp (c .status-if .ensures, c .before .struct-known .given .1, c .before .before .of-nexus .ensures)))
+    (λ c. simp (c .status-if .ensures, c .before .before .of-nexus .ensures)))

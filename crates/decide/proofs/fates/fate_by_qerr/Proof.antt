@@ -13,5 +13,5 @@ fate-by-qerr-spec =
     (λ c κs. search needs)
     (λ c κs. search needs)
     (λ c. search needs)
-    (λ c. simp (c .aborted-by .ensures, c .before .enum-told2 .given .1, c .before .before .match .keys2))
-    (λ c. simp (c .end-if .ensures, c .before .of-nexus .ensures, c .before .before .enum-told3 .given .1, c .before .before .before .match .keys3)))
+    (λ c. simp (c .aborted-by .ensures, c .before .enum-told2 .given .1))
+    (λ c. simp (c .end-if .ensures, c .before .of-nexus .ensures, c .before .before .enum-told3 .given .1)))

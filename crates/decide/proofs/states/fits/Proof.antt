@@ -11,5 +11,5 @@ fits-spec =
     (λ c κs. search needs)
     (λ c. search needs)
     (λ c κs. search needs)
-    (λ c. simp (c .fits-settled .ensures, c .before .enum-told .given .1, c .before .before .match .keys1, c .before .before .before .eligible .ensures))
-    (λ c. simp (c .fits-held .ensures, c .before .before .known-told .given .1, c .before .before .before .aca .given .1, c .before .before .before .before .match .keys2, c .before .before .before .before .before .eligible .ensures)))
+    (λ c. simp (c .fits-settled .ensures, c .before .enum-told .given .1, c .before .before .before .eligible .ensures))
+    (λ c. simp (c .fits-held .ensures, c .before .before .before .aca .given .1, c .before .before .before .before .before .eligible .ensures)))

@@ -9,4 +9,4 @@ is-named-spec =
     (λ c. search needs)
     (λ c. search needs)
     (λ c. search needs)
-    (λ c. simp (c .struct-known2 .given .1, c .before .struct-known .given .1, c .before .before .known-told .given .1, c .before .before .before .turn .given .1, c .before .before .before .before .match .keys2)))
+    (λ c. simp (c .before .before .before .turn .given .1)))

@@ -9,4 +9,4 @@ turn-of-spec =
     (λ c. search needs)
     (λ c. search needs)
     (λ c. search needs)
-    (λ c. simp (c .known-told .given .1, c .before .f .given .1, c .before .before .match .keys2)))
+    (λ c. simp (c .before .f .given .1)))

@@ -9,5 +9,5 @@ turn-in-numbers-spec =
     (λ c κs. search needs)
     (λ c. search needs)
     (λ c. search needs)
-    (λ c. simp (c .enum-told .given .1, c .before .match .keys1, c .before .before .in-numbers .ensures))
-    (λ c. simp (c .known-told .given .1, c .before .u .given .1, c .before .before .match .keys2, c .before .before .before .in-numbers .ensures)))
+    (λ c. simp (c .enum-told .given .1, c .before .before .in-numbers .ensures))
+    (λ c. simp (c .before .u .given .1, c .before .before .before .in-numbers .ensures)))

@@ -10,4 +10,4 @@ aca-without-spec =
     (λ c. search needs)
     (λ c κs. search needs)
     (λ c. search needs)
-    (λ c. simp (c .aca-if .ensures, c .before .known-told .given .1, c .before .before .aca .given .1, c .before .before .before .match .keys2)))
+    (λ c. simp (c .aca-if .ensures, c .before .before .aca .given .1)))

@@ -11,5 +11,5 @@ complete-spec =
     (λ c. search needs)
     (λ c. search needs)
     (λ c κs. search needs)
-    (λ c. simp (c .enum-told .given .1, c .before .match .keys1))
-    (λ c. simp (c .complete-here .ensures, c .before .known-told .given .1, c .before .before .found .given .1, c .before .before .before .match .keys2)))
+    (λ c. simp (c .enum-told .given .1))
+    (λ c. simp (c .complete-here .ensures, c .before .before .found .given .1)))

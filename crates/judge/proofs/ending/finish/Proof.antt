@@ -13,5 +13,5 @@ finish-spec =
     (λ c κs. search needs)
     (λ c κs. search needs)
     (λ c κs. search needs)
-    (λ c. simp (c .run-next .ensures, c .before .enum-told .given .1, c .before .before .match .keys1))
-    (λ c. simp (c .told-by-qerr .ensures, c .before .with-aca .ensures, c .before .before .aca-after .ensures, c .before .before .before .run-next2 .ensures, c .before .before .before .before .enum-told2 .given .1, c .before .before .before .before .before .match .keys2)))
+    (λ c. simp (c .run-next .ensures, c .before .enum-told .given .1))
+    (λ c. simp (c .told-by-qerr .ensures, c .before .with-aca .ensures, c .before .before .aca-after .ensures, c .before .before .before .run-next2 .ensures, c .before .before .before .before .enum-told2 .given .1)))

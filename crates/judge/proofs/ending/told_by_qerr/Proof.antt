@@ -11,5 +11,5 @@ told-by-qerr-spec =
     (λ c κs. search needs)
     (λ c. search needs)
     (λ c. search needs)
-    (λ c. simp (c .told-without-tas .ensures, c .before .enum-told2 .given .1, c .before .before .match .keys2))
+    (λ c. simp (c .told-without-tas .ensures, c .before .enum-told2 .given .1))
     (λ c. search needs))

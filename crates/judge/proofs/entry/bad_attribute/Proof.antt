@@ -10,5 +10,5 @@ bad-attribute-spec =
     (λ c κs. search needs)
     (λ c κs. search needs)
     (λ c. search needs)
-    (λ c. simp (c .is-clear .ensures, c .before .is-aca .ensures, c .before .before .known-told .given .1, c .before .before .before .asked .given .1, c .before .before .before .before .match .keys1))
+    (λ c. simp (c .is-clear .ensures, c .before .is-aca .ensures, c .before .before .before .asked .given .1))
     (λ c. search needs))

@@ -13,5 +13,5 @@ checks-past-aca-spec =
     (λ c κs. search needs)
     (λ c. search needs)
     (λ c κs. search needs)
-    (λ c. simp (c .reported .ensures, c .before .known-told .given .1, c .before .before .top .given .1, c .before .before .before .match .keys1, ← c .before .before .before .before .bit-if .ensures))
-    (λ c. simp (c .last-checks .ensures, c .before .enum-told .given .1, c .before .before .match .keys2, ← c .before .before .before .bit-if .ensures)))
+    (λ c. simp (c .reported .ensures, c .before .before .top .given .1, ← c .before .before .before .before .bit-if .ensures))
+    (λ c. simp (c .last-checks .ensures, c .before .enum-told .given .1, ← c .before .before .before .bit-if .ensures)))

@@ -9,4 +9,4 @@ held-off-spec =
     (λ c. search needs)
     (λ c. search needs)
     (λ c. search needs)
-    (λ c. simp (c .known-told .given .1, c .before .aca .given .1, c .before .before .match .keys2)))
+    (λ c. simp (c .before .aca .given .1)))

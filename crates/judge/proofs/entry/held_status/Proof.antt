@@ -10,4 +10,4 @@ held-status-spec =
     (λ c. search needs)
     (λ c κs. search needs)
     (λ c. search needs)
-    (λ c. simp (c .status-if .ensures, c .before .known-told .given .1, c .before .before .aca .given .1, c .before .before .before .match .keys2)))
+    (λ c. simp (c .status-if .ensures, c .before .before .aca .given .1)))

@@ -11,7 +11,7 @@ run-after-spec =
     (λ c. search needs)
     (λ c. search needs)
     (λ c. search needs)
-    (λ c. simp (c .run-up .ensures, c .before .enum-told .given .1, c .before .before .match .keys1))
+    (λ c. simp (c .run-up .ensures, c .before .enum-told .given .1))
     (λ c. search needs)
     (λ c. search needs)
     (λ c. search needs))
