@@ -2,6 +2,8 @@ use borrow.Author.Needs.{needs}
 use borrow.Author.Tests.{eq-eqb, ne-eqb, not-true, not-false}
 use mathlib.Core.Path.{refl, sym, _∙_}
 use mathlib.Core.Bool.{false}
+use native.Mathlib.Omega.{arith}
+use lib.ListN.{length}
 use Rattle.inspect.proofs.TableTest.{count-fits, by-tests}
 use Rattle.inspect.proofs.fits.table_fits.Statement.{statement}
 use Rattle.inspect.proofs.fits.table_fits.Tie as tie
@@ -12,7 +14,8 @@ table-fits-spec =
     (tie.spec
     (λ c.
     let lent = c .before in
-    by-tests (lent .before .args .t .now) _ refl (λ i. (lent .shared-slice-known .given i) .fits) false (rw (ne-eqb _ _ (c .if1 .taken))))
+    let t = lent .before .args .t .now in
+    by-tests t _ refl (λ i. (lent .shared-slice-known .given i) .fits) false (rw (ne-eqb (length t) 584 (λ e. omega (arith, c .if1 .taken)))))
     (λ c κs. search needs)
     (λ c κs. search needs)
     (λ c.

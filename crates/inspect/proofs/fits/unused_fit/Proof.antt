@@ -36,7 +36,7 @@ unused-fit-spec =
     let t = c .before .before .before .before .before .args .t .now in (
       omega arith,
       (rw (
-        unused-next t (turn .i) (c .before .before .loop-test .taken),
+        unused-next t (turn .i) (omega arith),
         ← c .before .load8 .ensures,
         ← c .unlike-unused .ensures,
         ← and-assoc,
