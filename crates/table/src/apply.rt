@@ -1,12 +1,12 @@
 // Apply one event.
-use crate::rule::nexus_of;
-use crate::rule::rule;
 use carry::change::change;
 use inspect::fits::table_fits;
 use records::bytes::get8;
 use records::events::EventRead;
 use records::events::event_of;
 use records::header::header_from;
+use ruling::rule::nexus_of;
+use ruling::rule::rule;
 use steps::report::zero_rest;
 use values::Answer;
 use values::Event;

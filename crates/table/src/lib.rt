@@ -1,5 +1,4 @@
 // The operations on a lent table: start, apply, name.
 pub mod apply;
 pub mod name;
-pub mod rule;
 pub mod start;

@@ -6,7 +6,7 @@ use Rattle.rules.proofs.WellKept.{tested-ruling, from-tested}
 use Rattle.rules.specs.Rulings.{ruled}
 use Rattle.records.specs.Tables.{stateOf}
 use Rattle.records.proofs.Good.{table-tested, good-tested}
-use Rattle.table.proofs.Decided.{good-few, header-read, ruling-read}
+use Rattle.ruling.proofs.Decided.{good-few, header-read, ruling-read}
 use Rattle.table.proofs.apply.on_event.Statement.{statement}
 use Rattle.table.proofs.apply.on_event.Tie as tie
 

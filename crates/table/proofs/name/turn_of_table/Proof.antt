@@ -2,7 +2,7 @@ use borrow.Author.Needs.{needs}
 use native.Mathlib.Omega.{arith}
 use mathlib.Core.Path.{_∙_}
 use Rattle.records.proofs.Good.{table-tested}
-use Rattle.table.proofs.Decided.{good-few, header-read, turn-read}
+use Rattle.ruling.proofs.Decided.{good-few, header-read, turn-read}
 use Rattle.table.proofs.name.turn_of_table.Statement.{statement}
 use Rattle.table.proofs.name.turn_of_table.Tie as tie
 

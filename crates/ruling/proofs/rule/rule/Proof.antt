@@ -1,7 +1,7 @@
 use borrow.Author.Needs.{needs}
-use Rattle.table.specs.Deciding.{searchedRuling}
-use Rattle.table.proofs.rule.rule.Statement.{statement}
-use Rattle.table.proofs.rule.rule.Tie as tie
+use Rattle.ruling.specs.Deciding.{searchedRuling}
+use Rattle.ruling.proofs.rule.rule.Statement.{statement}
+use Rattle.ruling.proofs.rule.rule.Tie as tie
 
 pub rule-spec : {M : Type 1} → statement M
 unfolding searchedRuling

@@ -4,9 +4,9 @@ use Rattle.laws.specs.Lists.{first}
 use Rattle.rules.specs.Tasks.{same}
 use Rattle.records.specs.Tables.{tasksFrom}
 use Rattle.decide.proofs.Walks.{task-found}
-use Rattle.table.specs.Deciding.{searchedRuling}
-use Rattle.table.proofs.rule.rule_completion.Statement.{statement}
-use Rattle.table.proofs.rule.rule_completion.Tie as tie
+use Rattle.ruling.specs.Deciding.{searchedRuling}
+use Rattle.ruling.proofs.rule.rule_completion.Statement.{statement}
+use Rattle.ruling.proofs.rule.rule_completion.Tie as tie
 
 pub rule-completion-spec : {M : Type 1} → statement M
 unfolding searchedRuling

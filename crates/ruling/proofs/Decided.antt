@@ -24,7 +24,7 @@ use Rattle.records.proofs.Good.{good-tested}
 use Rattle.decide.proofs.Walks.{turn-found, chosen-named}
 use Rattle.inspect.specs.Tests.{searchedTurn}
 use Rattle.rules.specs.Types.{Task, Event, Command, Completion, Management, Condition, Allegiance, Clear, Faulted, Header, Pending, Turn}
-use Rattle.table.specs.Deciding.{hasAca, pendingAt, searchedRuling}
+use Rattle.ruling.specs.Deciding.{hasAca, pendingAt, searchedRuling}
 
 has-aca-is : (a : Allegiance) (ts : List Task) → statesFit a ts ≡ true → hasAca a ts ≡ any acaTask ts
 has-aca-is Clear ts e = sym (settled-ordinary [] ts e)

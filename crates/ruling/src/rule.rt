@@ -23,7 +23,7 @@ ghost use Prim.Native.Nat.{_≤_, _<_};
 ghost use lib.ListN.{length, drop};
 ghost use Rattle.rules.specs.Rules.{nexusOf};
 ghost use Rattle.records.specs.Tables.{tasksFrom};
-ghost use Rattle.table.specs.Deciding.{hasAca, pendingAt, searchedRuling};
+ghost use Rattle.ruling.specs.Deciding.{hasAca, pendingAt, searchedRuling};
 
 fn has_aca(t: &[u8], n: usize, aca: Allegiance) -> bool
     requires { ⌜ (length (now t) ≡ 584) × (n ≤ 64) ⌝ }

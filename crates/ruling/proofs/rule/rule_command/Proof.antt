@@ -3,9 +3,9 @@ use lib.ListN.{drop}
 use Rattle.rules.specs.Tasks.{same}
 use Rattle.records.specs.Tables.{tasksFrom}
 use Rattle.decide.proofs.Walks.{here-any}
-use Rattle.table.specs.Deciding.{searchedRuling}
-use Rattle.table.proofs.rule.rule_command.Statement.{statement}
-use Rattle.table.proofs.rule.rule_command.Tie as tie
+use Rattle.ruling.specs.Deciding.{searchedRuling}
+use Rattle.ruling.proofs.rule.rule_command.Statement.{statement}
+use Rattle.ruling.proofs.rule.rule_command.Tie as tie
 
 pub rule-command-spec : {M : Type 1} → statement M
 unfolding searchedRuling

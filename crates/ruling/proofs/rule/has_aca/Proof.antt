@@ -3,8 +3,8 @@ use lib.ListN.{drop}
 use Rattle.rules.specs.Tasks.{acaTask}
 use Rattle.records.specs.Tables.{tasksFrom}
 use Rattle.decide.proofs.Walks.{here-any}
-use Rattle.table.proofs.rule.has_aca.Statement.{statement}
-use Rattle.table.proofs.rule.has_aca.Tie as tie
+use Rattle.ruling.proofs.rule.has_aca.Statement.{statement}
+use Rattle.ruling.proofs.rule.has_aca.Tie as tie
 
 pub has-aca-spec : {M : Type 1} → statement M
 has-aca-spec =
