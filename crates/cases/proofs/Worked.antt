@@ -7,7 +7,7 @@ use Rattle.rules.specs.Rules.{newTask, enter, complete, manage, happen, ruleFor
 use Rattle.rules.specs.Well.{wellFormed}
 use Rattle.records.specs.Events.{eventFrom, eventOf}
 use Rattle.records.specs.Tables.{tasksFrom, pendingsFrom, stateOf, nexusRecords, unusedRecords, tableBytes, reportBytes, nexusesFit, tasksFit, unusedFit, goodTable}
-use Rattle.table.specs.Operations.{outcome, named, started}
+use Rattle.operations.specs.Operations.{outcome, named, started}
 use Rattle.cases.specs.Play.{sameBytes, plays, right, all}
 use Rattle.cases.specs.More.{cases}
 

@@ -37,9 +37,9 @@ use mathlib.Core.List.{List, [], _∷_, _++_}
 use lib.Dec.{eqb}
 use lib.ListN.{length, replicate}
 use Rattle.values.specs.declared.rulings.Turn.{Turn, the-variants.Nothing, the-variants.Names}
-use Rattle.table.specs.declared.name.Naming.{Naming}
-use Rattle.table.specs.Answers.{Said, said}
-use Rattle.table.specs.Operations.{Outcome, outcome, named, Started, started}
+use Rattle.operations.specs.Types.{Naming}
+use Rattle.operations.specs.Answers.{Said, said}
+use Rattle.operations.specs.Operations.{Outcome, outcome, named, Started, started}
 
 -- Bytes ------------------------------------------------------------------------------------------------------------------------------------
 

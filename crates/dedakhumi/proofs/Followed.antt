@@ -3,7 +3,6 @@ use Prim.Native.Nat.{ℕ}
 use mathlib.Core.Path.{_≡_, refl}
 use mathlib.Core.Bool.{true}
 use mathlib.Core.List.{List, _++_}
-use borrow.Author.Tests.{eq-eqb}
 use lib.ListN.{length}
 use Rattle.rules.specs.Rulings.{fresh}
 use Rattle.rules.proofs.WellKept.{tested-fresh}
@@ -13,15 +12,16 @@ use Rattle.records.proofs.GoodSays.{good-written, good-table-says}
 use Rattle.history.specs.History.{begin, play, after}
 use Rattle.history.proofs.Reached.{tested-after}
 use Rattle.history.proofs.Conserve.{exactly-one, ended-grows}
-use Rattle.table.specs.Operations.{started}
+use Rattle.operations.specs.Operations.{started}
+use Rattle.operations.proofs.Starts.{begun}
 use Rattle.rules.specs.Types.{Policy}
 use Rattle.dedakhumi.specs.Moves.{Move, tableBy, Lent, eventsIn, opened}
 use Rattle.dedakhumi.specs.Demands.{Demand2}
 use Rattle.dedakhumi.proofs.Runs.{outcome-is, named-is, table-runs, events-append, play-append}
 
 pub started-opened : (t : List ℕ) (b : ℕ) → length t ≡ 584 → policyFits b ≡ true → (started t b) .table ≡ opened (policyFrom b)
-unfolding started opened
-started-opened t b l f = rw (eq-eqb (length t) 584 l, f) refl
+unfolding opened
+started-opened t b l f = rw (begun t b l f) refl
 
 pub table-after : (p : Policy) (ms : List Move) → Lent ms → tableBy (opened p) ms ≡ tableBytes ((after p (eventsIn ms)) .state)
 unfolding opened

@@ -19,8 +19,8 @@ use Rattle.records.proofs.Written.{state-back-again}
 use Rattle.records.proofs.GoodSays.{good-written}
 use Rattle.history.specs.History.{Past, advance, play, isDone, isTurn, turns}
 use Rattle.history.proofs.Reached.{tested-play}
-use Rattle.table.specs.Answers.{writesReport}
-use Rattle.table.specs.Operations.{Outcome, carried, onEvent, outcome, naming, named}
+use Rattle.operations.specs.Answers.{writesReport}
+use Rattle.operations.specs.Operations.{Outcome, carried, onEvent, outcome, naming, named}
 use Rattle.rules.specs.Types.{Event, Command, Completion, Management, Condition, Allegiance, Clear, Faulted, Answer, Done, BadTable, BadReport, BadEvent, NexusAboveSeven, NoSuchTask, NotEnabled, EndedAtEntry, Rejected, BadPolicy, Ruling, Keeps, Changes}
 use Rattle.records.specs.declared.events.EventRead.{EventRead, the-variants.Readable, the-variants.Unreadable}
 use Rattle.dedakhumi.specs.Moves.{Move, applied, tableBy, Lent, readIn, eventsIn, completes, isTurnBy, turnsBy, expectedOn}

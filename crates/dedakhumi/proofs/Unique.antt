@@ -2,10 +2,10 @@
 use Prim.Native.Nat.{ℕ}
 use mathlib.Core.Path.{_≡_, sym, _∙_}
 use mathlib.Core.List.{List}
-use Rattle.table.specs.Operations.{Outcome, AppliedAs, named, Started, StartedAs}
+use Rattle.operations.specs.Operations.{Outcome, AppliedAs, named, Started, StartedAs}
 use Rattle.rules.specs.Types.{Answer}
-use Rattle.table.specs.declared.apply.Applied.{Applied}
-use Rattle.table.specs.declared.name.Naming.{Naming}
+use Rattle.operations.specs.Types.{Applied}
+use Rattle.operations.specs.Types.{Naming}
 
 joint : {A : Type 0} {x y z : A} → x ≡ z → y ≡ z → x ≡ y
 joint p q = p ∙ sym q

@@ -1,4 +1,4 @@
--- What the C port driver is told: document 01's numbers (table/specs/Answers) in the layout of include/dedakhumi.h.
+-- What the C port driver is told: document 01's numbers (operations/specs/Answers) in the layout of include/dedakhumi.h.
 --
 --   numbersOf a n    := the answer a with n ended records
 --   answered o       := what apply returns
@@ -6,10 +6,10 @@
 --   turnFor n        := what name returns
 use Prim.Native.Nat.{ℕ}
 use mathlib.Core.Bool.{true, false}
-use Rattle.table.specs.Answers.{said}
-use Rattle.table.specs.Operations.{Outcome}
+use Rattle.operations.specs.Answers.{said}
+use Rattle.operations.specs.Operations.{Outcome}
 use Rattle.rules.specs.Types.{Answer, Turn, Nothing, Names}
-use Rattle.table.specs.declared.name.Naming.{Naming}
+use Rattle.operations.specs.Types.{Naming}
 use Rattle.dedakhumi.specs.Types.{Answered, NamedTurn}
 
 abbrev pub numbersOf : Answer → ℕ → Answered

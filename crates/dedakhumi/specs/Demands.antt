@@ -17,8 +17,8 @@ use Rattle.records.specs.Numbers.{policyFits, policyFrom}
 use Rattle.records.specs.Tables.{GoodTable, tableBytes}
 use Rattle.records.specs.Events.{eventOf}
 use Rattle.history.specs.History.{after, accepted, inTable, hasEnded}
-use Rattle.table.specs.Answers.{said}
-use Rattle.table.specs.Operations.{outcome, naming, named, started}
+use Rattle.operations.specs.Answers.{said}
+use Rattle.operations.specs.Operations.{outcome, naming, named, started}
 use Rattle.rules.specs.Types.{Aca, Task, Event, Policy, Done}
 use Rattle.records.specs.declared.events.EventRead.{the-variants.Readable, the-variants.Unreadable}
 use Rattle.dedakhumi.specs.Moves.{Move, applied, tableBy, Lent, eventsIn, opened, turnsBy, expected}

@@ -21,8 +21,8 @@ use Rattle.rules.specs.Rulings.{State, fresh}
 use Rattle.rules.specs.Rules.{step, answer, report}
 use Rattle.records.specs.Tables.{tableBytes, reportBytes}
 use Rattle.records.specs.Events.{eventOf}
-use Rattle.table.specs.Answers.{said, writesReport}
-use Rattle.table.specs.Operations.{Outcome, refused, outcome, named}
+use Rattle.operations.specs.Answers.{said, writesReport}
+use Rattle.operations.specs.Operations.{Outcome, refused, outcome, named}
 use Rattle.rules.specs.Types.{Event, Command, Completion, Management, Condition, Policy, BadEvent, Turn}
 use Rattle.records.specs.declared.events.EventRead.{EventRead, the-variants.Readable, the-variants.Unreadable}
 

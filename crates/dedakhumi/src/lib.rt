@@ -6,8 +6,8 @@ use crate::numbers::NamedTurn;
 use crate::numbers::in_numbers;
 use crate::numbers::turn_in_numbers;
 ghost use mathlib.Core.Path.{_≡_};
-ghost use Rattle.table.specs.Answers.{said};
-ghost use Rattle.table.specs.Operations.{outcome, named, started};
+ghost use Rattle.operations.specs.Answers.{said};
+ghost use Rattle.operations.specs.Operations.{outcome, named, started};
 ghost use Rattle.dedakhumi.specs.Boundary.{answered, turnFor};
 
 #[no_mangle]

@@ -8,7 +8,7 @@ use mathlib.Core.Path.{_≡_, _∙_, ap, sym}
 use mathlib.Core.List.{List, [], _++_, append-assoc}
 use lib.ListN.{length, take, drop, length-drop}
 use lib.Seq.{drop-drop, take-all}
-use Rattle.table.specs.Operations.{outcome}
+use Rattle.operations.specs.Operations.{outcome}
 use Rattle.dedakhumi.specs.Boundary.{answered}
 use Rattle.player.specs.Lines.{line, Written}
 use Rattle.player.specs.Played.{Run, behind, played}

@@ -10,7 +10,7 @@ use mathlib.Core.Path.{_≡_}
 use mathlib.Core.List.{List, [], _++_}
 use lib.ListN.{take, drop}
 use Rattle.io.specs.Counts.{Counts}
-use Rattle.table.specs.Operations.{outcome}
+use Rattle.operations.specs.Operations.{outcome}
 use Rattle.dedakhumi.specs.Boundary.{answered}
 use Rattle.player.specs.Lines.{line}
 

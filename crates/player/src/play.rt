@@ -4,7 +4,7 @@ use dedakhumi::dedakhumi_apply;
 ghost use Prim.Native.Nat.{_+_, _*_, _≤_, min};
 ghost use mathlib.Core.Path.{_≡_};
 ghost use lib.ListN.{length};
-ghost use Rattle.table.specs.Operations.{outcome};
+ghost use Rattle.operations.specs.Operations.{outcome};
 ghost use Rattle.dedakhumi.specs.Boundary.{answered};
 ghost use Rattle.player.specs.Lines.{line, Written};
 ghost use Rattle.player.specs.Played.{pieces, played, PlayedAs};

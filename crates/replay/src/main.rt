@@ -1,9 +1,9 @@
 // Runs the cases of crates/cases over the compiled operations and writes all that is seen. What the operations do is proved in dedakhumi: this
 // program only shows it, and rt compares what it writes with what the cases list (tests/cases/make-replay).
 mod buffers;
+mod calls;
 mod dump;
 mod frames;
-mod operations;
 mod print;
 mod stage;
 

@@ -1,11 +1,11 @@
 // What each frame does to the two lent buffers, and what it writes.
 use crate::buffers::copy;
 use crate::buffers::within;
+use crate::calls::apply;
+use crate::calls::name;
+use crate::calls::start;
 use crate::frames::Frame;
 use crate::frames::read_payload;
-use crate::operations::apply;
-use crate::operations::name;
-use crate::operations::start;
 use crate::print::print;
 
 // How many bytes of the table and of the report buffer are lent.

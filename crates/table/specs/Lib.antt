@@ -1,4 +1,1 @@
-pub mod Types
-pub mod Answers
 pub mod Fresh
-pub mod Operations

@@ -9,6 +9,7 @@ use ruling::rule::nexus_of;
 use ruling::rule::rule;
 use steps::report::zero_rest;
 use values::Answer;
+use values::Applied;
 use values::Event;
 use values::Header;
 use values::Ruling;
@@ -20,14 +21,8 @@ ghost use Rattle.rules.specs.Rulings.{ruled};
 ghost use Rattle.rules.specs.Rules.{nexusOf, ruling};
 ghost use Rattle.rules.specs.Well.{wellFormed};
 ghost use Rattle.records.specs.Tables.{stateOf, goodTable};
-ghost use Rattle.table.specs.Answers.{writesReport};
-ghost use Rattle.table.specs.Operations.{carried, outcome, AppliedAs};
-
-// The answer and the ended count; document 01's numbers for each answer are in specs/Answers.
-pub struct Applied {
-    pub answer: Answer,
-    pub ended: u8,
-}
+ghost use Rattle.operations.specs.Answers.{writesReport};
+ghost use Rattle.operations.specs.Operations.{carried, outcome, AppliedAs};
 
 fn writes_report(a: Answer) -> bool
     ensures { λ r. ⌜ r ≡ writesReport a ⌝ }

@@ -4,17 +4,13 @@ use inspect::fits::table_fits;
 use records::bytes::get8;
 use records::header::header_from;
 use values::Answer;
+use values::Naming;
 use values::Turn;
 ghost use mathlib.Core.Path.{_≡_};
 ghost use mathlib.Core.Bool.{true};
 ghost use Rattle.rules.specs.Rulings.{turn};
 ghost use Rattle.records.specs.Tables.{stateOf, goodTable};
-ghost use Rattle.table.specs.Operations.{named};
-
-pub struct Naming {
-    pub answer: Answer,
-    pub turn: Turn,
-}
+ghost use Rattle.operations.specs.Operations.{named};
 
 fn turn_of_table(t: &[u8]) -> Turn
     requires { ⌜ goodTable (now t) ≡ true ⌝ }

@@ -15,7 +15,7 @@ ghost use lib.ListN.{length, take, drop};
 ghost use Rattle.rules.specs.Rulings.{fresh};
 ghost use Rattle.records.specs.Numbers.{policyFrom};
 ghost use Rattle.records.specs.Tables.{tableBytes};
-ghost use Rattle.table.specs.Operations.{started, StartedAs};
+ghost use Rattle.operations.specs.Operations.{started, StartedAs};
 ghost use Rattle.table.specs.Fresh.{freshNexuses, freshTasks};
 
 fn write_nexuses(t: &mut [u8])

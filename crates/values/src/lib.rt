@@ -2,6 +2,7 @@
 mod answers;
 mod events;
 mod header;
+mod operations;
 mod pending;
 mod rulings;
 mod tasks;
@@ -18,6 +19,8 @@ pub use header::Allegiance;
 pub use header::Header;
 pub use header::Policy;
 pub use header::Qerr;
+pub use operations::Applied;
+pub use operations::Naming;
 pub use pending::Bit;
 pub use pending::Pending;
 pub use pending::Top;

@@ -2,7 +2,7 @@ use borrow.Author.Needs.{needs}
 use borrow.Author.Tests.{not-true, not-false}
 use native.Mathlib.Omega.{arith}
 use mathlib.Core.Path.{sym, _∙_}
-use Rattle.table.proofs.Looked.{refused-as, no-table, no-report, no-event, no-nexus, ruled-on}
+use Rattle.operations.proofs.Looked.{refused-as, no-table, no-report, no-event, no-nexus, ruled-on}
 use Rattle.table.proofs.apply.apply.Statement.{statement}
 use Rattle.table.proofs.apply.apply.Tie as tie
 

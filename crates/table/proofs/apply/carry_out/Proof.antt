@@ -1,6 +1,6 @@
 use borrow.Author.Needs.{needs}
 use mathlib.Core.Path.{refl, ap, _∙_}
-use Rattle.table.proofs.Looked.{zeroed}
+use Rattle.operations.proofs.Looked.{zeroed}
 use Rattle.rules.specs.Types.{Header}
 use Rattle.table.proofs.apply.carry_out.Statement.{statement}
 use Rattle.table.proofs.apply.carry_out.Tie as tie

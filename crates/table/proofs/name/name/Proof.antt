@@ -1,7 +1,7 @@
 use borrow.Author.Needs.{needs}
 use borrow.Author.Tests.{not-true, not-false}
 use mathlib.Core.Path.{sym, _∙_}
-use Rattle.table.specs.Operations.{named}
+use Rattle.operations.specs.Operations.{named}
 use Rattle.table.proofs.name.name.Statement.{statement}
 use Rattle.table.proofs.name.name.Tie as tie
 

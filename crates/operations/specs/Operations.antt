@@ -18,8 +18,8 @@ use Rattle.records.specs.Tables.{tableSize, reportSize, stateOf, tableBytes, re
 use Rattle.records.specs.Events.{eventOf}
 use Rattle.rules.specs.Types.{Answer, Done, BadTable, BadReport, BadEvent, BadPolicy, Turn, Nothing, Ruling, Keeps, Changes}
 use Rattle.records.specs.declared.events.EventRead.{EventRead, the-variants.Readable, the-variants.Unreadable}
-use Rattle.table.specs.Types.{Applied, Naming}
-use Rattle.table.specs.Answers.{writesReport}
+use Rattle.operations.specs.Types.{Applied, Naming}
+use Rattle.operations.specs.Answers.{writesReport}
 
 -- Apply ------------------------------------------------------------------------------------------------------------------------------------
 

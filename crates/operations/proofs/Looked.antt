@@ -5,15 +5,16 @@ use mathlib.Core.Path.{_≡_, refl, ap, _∙_}
 use mathlib.Core.List.{List, []}
 use lib.ListN.{length, replicate}
 use borrow.Author.Tests.{eq-eqb, ne-eqb}
+use Rattle.rules.specs.Rulings.{State}
 use Rattle.rules.specs.Rules.{nexusOf, ruling}
 use Rattle.rules.proofs.Cases.{ruling-high}
 use Rattle.records.specs.Tables.{stateOf, reportBytes, goodTable}
 use Rattle.records.specs.Events.{eventOf}
-use Rattle.rules.specs.Types.{Event, Answer, BadTable, BadReport, BadEvent, NexusAboveSeven}
+use Rattle.rules.specs.Types.{Event, Answer, BadTable, BadReport, BadEvent, NexusAboveSeven, Rejected, Keeps}
 use Rattle.records.specs.declared.events.EventRead.{EventRead, the-variants.Readable, the-variants.Unreadable}
-use Rattle.table.specs.Types.{Applied}
-use Rattle.table.specs.Answers.{writesReport}
-use Rattle.table.specs.Operations.{Outcome, refused, carried, onEvent, outcome, AppliedAs}
+use Rattle.operations.specs.Types.{Applied}
+use Rattle.operations.specs.Answers.{writesReport}
+use Rattle.operations.specs.Operations.{Outcome, refused, carried, onEvent, outcome, AppliedAs}
 
 pub refused-as : {o : Outcome} {a : Answer} (x : Applied) (t r : List ℕ) → o ≡ refused a t r → (x .answer ≡ a) × (x .ended ≡ 0) → AppliedAs o x t r
 refused-as x t r e f = rw e (record { answer = f .0; ended = f .1; table = refl; report = refl })
@@ -22,6 +23,10 @@ pub zeroed :
     (a : Answer) (r : List ℕ) → length r ≡ 512 → cond (writesReport a) (replicate (length r) 0) r ≡ cond (writesReport a) (reportBytes []) r
 unfolding reportBytes
 zeroed a r l = ap (λ (n : ℕ). cond (writesReport a) (replicate n 0) r) l
+
+-- an event that is rejected empties the report
+pub rejected-empties : (t r : List ℕ) (s : State) → (carried t r s (Keeps Rejected)) .report ≡ reportBytes []
+rejected-empties t r s = refl
 
 module _ (t r e : List ℕ) where
   pub no-table : goodTable t ≡ false → outcome t r e ≡ refused BadTable t r

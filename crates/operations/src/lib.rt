@@ -1,0 +1,1 @@
+// What the three operations give, for every input: definitions and laws, no code.
