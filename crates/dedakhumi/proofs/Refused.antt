@@ -4,48 +4,27 @@ use mathlib.Core.Bool.{Bool, true, false, _||_}
 use mathlib.Core.Path.{_≡_, refl}
 use mathlib.Core.List.{List}
 use native.Mathlib.Omega.{arith}
-use lib.Dec.{eqb, ltb}
+use lib.Dec.{eqb}
 use lib.ListN.{length}
-use borrow.Author.Tests.{eqb-true, eqb-false, eq-eqb, ne-eqb, ltb-false, le-ltb, leb-true}
-use Rattle.laws.proofs.Bools.{cases, split, not-both, or-true}
-use Rattle.rules.specs.Rulings.{State, fresh, answerOf}
-use Rattle.rules.specs.Rules.{nexusOf, ruleFor, ruling}
-use Rattle.records.specs.Numbers.{policyFits, policyFrom}
-use Rattle.records.specs.Tables.{stateOf, GoodTable, tableBytes, goodTable}
+use borrow.Author.Tests.{eqb-true, ne-eqb, leb-true}
+use Rattle.laws.proofs.Bools.{split, or-true}
+use Rattle.rules.specs.Rulings.{State, answerOf}
+use Rattle.rules.specs.Rules.{nexusOf, ruleFor}
+use Rattle.records.specs.Numbers.{policyFits}
+use Rattle.records.specs.Tables.{stateOf, GoodTable, goodTable}
 use Rattle.records.specs.Events.{eventOf}
 use Rattle.records.proofs.GoodSays.{good-table-says}
-use Rattle.operations.specs.Operations.{Outcome, refused, carried, onEvent, outcome, named, Started, start, started}
-use Rattle.rules.specs.Types.{Event, Done, BadTable, BadReport, BadEvent, NexusAboveSeven, BadPolicy, Ruling, Keeps, Changes}
-use Rattle.records.specs.declared.events.EventRead.{EventRead, the-variants.Readable, the-variants.Unreadable}
-use Rattle.operations.specs.Types.{Naming}
+use Rattle.operations.proofs.Looked.{no-table, no-report, no-event, no-nexus, outcome-cases}
+use Rattle.operations.proofs.Starts.{no-room, no-policy, started-cases}
+use Rattle.operations.proofs.Names.{named-bad, named-good}
+use Rattle.operations.specs.Operations.{Outcome, carried}
+use Rattle.rules.specs.Types.{Event, Ruling, Keeps, Changes}
+use Rattle.records.specs.declared.events.EventRead.{the-variants.Readable, the-variants.Unreadable}
 use Rattle.dedakhumi.specs.Demands.{Demand1, number, startNumber, nameNumber}
 use Rattle.dedakhumi.proofs.Answered.{numberOf, AnsweredAs, rule-answers}
 
 not-good : (t : List ℕ) → (GoodTable t → ⊥) → goodTable t ≡ false
 not-good t n = split (goodTable t) (λ g. absurd (n (good-table-says t .0 g))) (λ g. g)
-
--- Where each answer comes from -----------------------------------------------------------------------------------------------------------------
-
-outcome-cases : (P : Outcome → Type 0) (t r e : List ℕ)
-    → ((GoodTable t → ⊥) → P (refused BadTable t r))
-    → (GoodTable t → (length r ≡ 512 → ⊥) → P (refused BadReport t r))
-    → (GoodTable t → length r ≡ 512 → eventOf e ≡ Unreadable → P (refused BadEvent t r))
-    → (GoodTable t → length r ≡ 512 → (v : Event) → eventOf e ≡ Readable v → 8 ≤ nexusOf v → P (refused NexusAboveSeven t r))
-    → ((v : Event) → P (carried t r (stateOf t) (ruleFor (stateOf t) v)))
-    → P (outcome t r e)
-unfolding outcome ruling
-outcome-cases P t r e table report event nexus rule =
-    cases P (goodTable t)
-    (λ g.
-    cases P (eqb (length r) 512) (λ l. go (good-table-says t .0 g) (eqb-true (length r) 512 l) (eventOf e) refl)
-    (λ l. report (good-table-says t .0 g) (eqb-false (length r) 512 l)))
-    (λ g. table (λ w. not-both (good-table-says t .1 w) g))
-  where
-    go : GoodTable t → length r ≡ 512 → (o : EventRead) → eventOf e ≡ o → P (onEvent t r o)
-    go w l Unreadable q = event w l q
-    go w l (Readable v) q =
-        cases (λ x. P (carried t r (stateOf t) x)) (ltb (nexusOf v) 8) (λ h. rule v)
-        (λ h. nexus w l v q (ltb-false (nexusOf v) 8 h))
 
 -- What a ruling answers -------------------------------------------------------------------------------------------------------------------------
 
@@ -99,50 +78,19 @@ module _ (t r e : List ℕ) where
 
 -- Start and name --------------------------------------------------------------------------------------------------------------------------------
 
-started-cases : (P : Started → Type 0) (t : List ℕ) (p : ℕ)
-    → ((length t ≡ 584 → ⊥) → P (start BadTable t))
-    → (length t ≡ 584 → policyFits p ≡ false → P (start BadPolicy t))
-    → P (start Done (tableBytes (fresh (policyFrom p))))
-    → P (started t p)
-unfolding started
-started-cases P t p length policy done =
-    cases P (eqb (lib.ListN.length t) 584)
-    (λ l. cases P (policyFits p) (λ f. done) (λ f. policy (eqb-true (lib.ListN.length t) 584 l) f))
-    (λ l. length (eqb-false (lib.ListN.length t) 584 l))
-
 named-number : (t : List ℕ) → nameNumber t ≡ 1 → GoodTable t → ⊥
-unfolding named
-named-number t =
-    cases (λ (n : Naming). numberOf (n .answer) ≡ 1 → GoodTable t → ⊥) (goodTable t) (λ g q w. absurd (omega arith))
-    (λ g q w. not-both (good-table-says t .1 w) g)
+named-number t q w = let z : nameNumber t ≡ 0 = rw (nameNumber, named-good t (good-table-says t .1 w)) in omega arith
 
 pub demand1 : Demand1
-unfolding outcome ruling started named
 demand1 =
     record {
-      bad-table = λ t r e. (reason t r e 1, λ n. rw (number, not-good t n));
-      bad-report =
-          λ t r e. (
-            reason t r e 2,
-            λ h. rw (number, good-table-says t .1 (h .0), ne-eqb (length r) 512 (h .1)),
-          );
-      bad-event =
-          λ t r e. (
-            reason t r e 3,
-            λ h. rw (number, good-table-says t .1 (h .0), eq-eqb (length r) 512 (h .1), h .2),
-          );
+      bad-table = λ t r e. (reason t r e 1, λ n. rw (number, no-table t r e (not-good t n)));
+      bad-report = λ t r e. (reason t r e 2, λ h. rw (number, no-report t r e (good-table-says t .1 (h .0)) (h .1)));
+      bad-event = λ t r e. (reason t r e 3, λ h. rw (number, no-event t r e (good-table-says t .1 (h .0)) (h .1) (h .2)));
       bad-nexus =
           λ t r e. (
             reason t r e 4,
-            λ h.
-                let k = h .2 in
-                rw (
-                  number,
-                  good-table-says t .1 (h .0),
-                  eq-eqb (length r) 512 (h .1),
-                  k .1,
-                  le-ltb (nexusOf (k .0)) 8 (k .2),
-                ),
+            λ h. let k = h .2 in rw (number, no-nexus t r e (good-table-says t .1 (h .0)) (h .1) (k .0) (k .1) (k .2)),
           );
       unchanged =
           λ t r e.
@@ -154,17 +102,17 @@ demand1 =
           λ t p. (
             started-cases (λ o. numberOf (o .answer) ≡ 1 → length t ≡ 584 → ⊥) t p (λ n q. n) (λ l f q. absurd (omega arith))
                 (λ q. absurd (omega arith)),
-            λ n. rw (startNumber, ne-eqb (length t) 584 n),
+            λ n. rw (startNumber, no-room t p n),
           );
       start-policy =
           λ t p. (
             started-cases (λ o. numberOf (o .answer) ≡ 9 → (length t ≡ 584) × (policyFits p ≡ false)) t p (λ n q. absurd (omega arith))
                 (λ l f q. (l, f))
                 (λ q. absurd (omega arith)),
-            λ h. rw (startNumber, eq-eqb (length t) 584 (h .0), h .1),
+            λ h. rw (startNumber, no-policy t p (h .0) (h .1)),
           );
       start-unchanged =
           λ t p.
           started-cases (λ o. 1 ≤ numberOf (o .answer) → o .table ≡ t) t p (λ n q. refl) (λ l f q. refl) (λ q. absurd (omega arith));
-      name-table = λ t. (named-number t, λ n. rw (nameNumber, not-good t n));
+      name-table = λ t. (named-number t, λ n. rw (nameNumber, named-bad t (not-good t n)));
     }

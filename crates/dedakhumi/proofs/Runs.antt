@@ -6,7 +6,7 @@ use mathlib.Core.List.{List, [], _∷_, _++_, append-assoc}
 use native.Mathlib.Omega.{arith}
 use lib.Dec.{eqb, ltb}
 use lib.ListN.{length, getD}
-use borrow.Author.Tests.{eq-eqb, ne-eqb}
+use borrow.Author.Tests.{ne-eqb}
 use Rattle.laws.specs.Lists.{one-if}
 use Rattle.laws.proofs.Bools.{cases}
 use Rattle.rules.specs.Rulings.{State, isClear, turn, ruled, answerOf, reportOf}
@@ -20,6 +20,8 @@ use Rattle.records.proofs.GoodSays.{good-written}
 use Rattle.history.specs.History.{Past, advance, play, isDone, isTurn, turns}
 use Rattle.history.proofs.Reached.{tested-play}
 use Rattle.operations.specs.Answers.{writesReport}
+use Rattle.operations.proofs.Looked.{looked}
+use Rattle.operations.proofs.Names.{named-good}
 use Rattle.operations.specs.Operations.{Outcome, carried, onEvent, outcome, naming, named}
 use Rattle.rules.specs.Types.{Event, Command, Completion, Management, Condition, Allegiance, Clear, Faulted, Answer, Done, BadTable, BadReport, BadEvent, NexusAboveSeven, NoSuchTask, NotEnabled, EndedAtEntry, Rejected, BadPolicy, Ruling, Keeps, Changes}
 use Rattle.records.specs.declared.events.EventRead.{EventRead, the-variants.Readable, the-variants.Unreadable}
@@ -69,8 +71,7 @@ ruling-carried s r e =
     (λ h. refl)
 
 pub outcome-is : (s : State) (r v : List ℕ) → Tested s → length r ≡ 512 → outcome (tableBytes s) r v ≡ expectedOn s r (eventOf v)
-unfolding outcome
-outcome-is s r v w l = rw (good-written s w, eq-eqb (length r) 512 l) (go (eventOf v))
+outcome-is s r v w l = looked (tableBytes s) r v (good-written s w) l (eventOf v) refl ∙ go (eventOf v)
   where
     go : (o : EventRead) → onEvent (tableBytes s) r o ≡ expectedOn s r o
     go Unreadable = refl
@@ -78,9 +79,9 @@ outcome-is s r v w l = rw (good-written s w, eq-eqb (length r) 512 l) (go (event
         ap (λ (z : State). carried (tableBytes s) r z (ruling z e)) (state-back-again s (w .counted) (w .eight)) ∙ ruling-carried s r e
 
 pub named-is : (s : State) → Tested s → named (tableBytes s) ≡ naming Done (turn s)
-unfolding named
 named-is s w =
-    rw (good-written s w) (ap (λ (z : State). naming Done (turn z)) (state-back-again s (w .counted) (w .eight)))
+    named-good (tableBytes s) (good-written s w)
+    ∙ ap (λ (z : State). naming Done (turn z)) (state-back-again s (w .counted) (w .eight))
 
 -- Any calls ----------------------------------------------------------------------------------------------------------------------------------
 

@@ -4,8 +4,7 @@ use mathlib.Core.Path.{_≡_, sym, _∙_}
 use mathlib.Core.List.{List}
 use Rattle.operations.specs.Operations.{Outcome, AppliedAs, named, Started, StartedAs}
 use Rattle.rules.specs.Types.{Answer}
-use Rattle.operations.specs.Types.{Applied}
-use Rattle.operations.specs.Types.{Naming}
+use Rattle.operations.specs.Types.{Applied, Naming}
 
 joint : {A : Type 0} {x y z : A} → x ≡ z → y ≡ z → x ≡ y
 joint p q = p ∙ sym q

@@ -1,2 +1,3 @@
 pub mod Looked
 pub mod Starts
+pub mod Names

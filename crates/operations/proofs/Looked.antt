@@ -4,12 +4,15 @@ use mathlib.Core.Bool.{true, false, cond}
 use mathlib.Core.Path.{_≡_, refl, ap, _∙_}
 use mathlib.Core.List.{List, []}
 use lib.ListN.{length, replicate}
-use borrow.Author.Tests.{eq-eqb, ne-eqb}
+use lib.Dec.{eqb, ltb}
+use borrow.Author.Tests.{eqb-true, eqb-false, eq-eqb, ne-eqb, ltb-false}
+use Rattle.laws.proofs.Bools.{cases, not-both}
 use Rattle.rules.specs.Rulings.{State}
-use Rattle.rules.specs.Rules.{nexusOf, ruling}
+use Rattle.rules.specs.Rules.{nexusOf, ruleFor, ruling}
 use Rattle.rules.proofs.Cases.{ruling-high}
-use Rattle.records.specs.Tables.{stateOf, reportBytes, goodTable}
+use Rattle.records.specs.Tables.{stateOf, GoodTable, reportBytes, goodTable}
 use Rattle.records.specs.Events.{eventOf}
+use Rattle.records.proofs.GoodSays.{good-table-says}
 use Rattle.rules.specs.Types.{Event, Answer, BadTable, BadReport, BadEvent, NexusAboveSeven, Rejected, Keeps}
 use Rattle.records.specs.declared.events.EventRead.{EventRead, the-variants.Readable, the-variants.Unreadable}
 use Rattle.operations.specs.Types.{Applied}
@@ -38,7 +41,7 @@ module _ (t r e : List ℕ) where
   no-report h l = rw (h, ne-eqb (length r) 512 l)
 
   module _ (h : goodTable t ≡ true) (l : length r ≡ 512) where
-    looked : (o : EventRead) → eventOf e ≡ o → outcome t r e ≡ onEvent t r o
+    pub looked : (o : EventRead) → eventOf e ≡ o → outcome t r e ≡ onEvent t r o
     unfolding outcome
     looked o f = rw (h, eq-eqb (length r) 512 l, f)
 
@@ -50,3 +53,25 @@ module _ (t r e : List ℕ) where
 
     pub no-nexus : (v : Event) → eventOf e ≡ Readable v → 8 ≤ nexusOf v → outcome t r e ≡ refused NexusAboveSeven t r
     no-nexus v f g = ruled-on v f ∙ rw (ruling-high (stateOf t) v g)
+
+-- where each answer comes from
+pub outcome-cases : (P : Outcome → Type 0) (t r e : List ℕ)
+    → ((GoodTable t → ⊥) → P (refused BadTable t r))
+    → (GoodTable t → (length r ≡ 512 → ⊥) → P (refused BadReport t r))
+    → (GoodTable t → length r ≡ 512 → eventOf e ≡ Unreadable → P (refused BadEvent t r))
+    → (GoodTable t → length r ≡ 512 → (v : Event) → eventOf e ≡ Readable v → 8 ≤ nexusOf v → P (refused NexusAboveSeven t r))
+    → ((v : Event) → P (carried t r (stateOf t) (ruleFor (stateOf t) v)))
+    → P (outcome t r e)
+unfolding outcome ruling
+outcome-cases P t r e table report event nexus rule =
+    cases P (goodTable t)
+    (λ g.
+    cases P (eqb (length r) 512) (λ l. go (good-table-says t .0 g) (eqb-true (length r) 512 l) (eventOf e) refl)
+    (λ l. report (good-table-says t .0 g) (eqb-false (length r) 512 l)))
+    (λ g. table (λ w. not-both (good-table-says t .1 w) g))
+  where
+    go : GoodTable t → length r ≡ 512 → (o : EventRead) → eventOf e ≡ o → P (onEvent t r o)
+    go w l Unreadable q = event w l q
+    go w l (Readable v) q =
+        cases (λ x. P (carried t r (stateOf t) x)) (ltb (nexusOf v) 8) (λ h. rule v)
+        (λ h. nexus w l v q (ltb-false (nexusOf v) 8 h))

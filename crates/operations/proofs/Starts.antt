@@ -3,13 +3,15 @@ use Prim.Native.Nat.{ℕ}
 use mathlib.Core.Bool.{true, false}
 use mathlib.Core.Path.{_≡_}
 use mathlib.Core.List.{List}
+use lib.Dec.{eqb}
 use lib.ListN.{length}
-use borrow.Author.Tests.{eq-eqb, ne-eqb}
+use borrow.Author.Tests.{eqb-true, eqb-false, eq-eqb, ne-eqb}
+use Rattle.laws.proofs.Bools.{cases}
 use Rattle.rules.specs.Rulings.{fresh}
 use Rattle.records.specs.Numbers.{policyFits, policyFrom}
 use Rattle.records.specs.Tables.{tableBytes}
 use Rattle.rules.specs.Types.{Done, BadTable, BadPolicy}
-use Rattle.operations.specs.Operations.{start, started}
+use Rattle.operations.specs.Operations.{Started, start, started}
 
 module _ (t : List ℕ) (p : ℕ) where
   pub no-room : (length t ≡ 584 → ⊥) → started t p ≡ start BadTable t
@@ -23,3 +25,15 @@ module _ (t : List ℕ) (p : ℕ) where
   pub begun : length t ≡ 584 → policyFits p ≡ true → started t p ≡ start Done (tableBytes (fresh (policyFrom p)))
   unfolding started
   begun l f = rw (eq-eqb (length t) 584 l, f)
+
+-- where each answer comes from
+pub started-cases : (P : Started → Type 0) (t : List ℕ) (p : ℕ)
+    → ((length t ≡ 584 → ⊥) → P (start BadTable t))
+    → (length t ≡ 584 → policyFits p ≡ false → P (start BadPolicy t))
+    → P (start Done (tableBytes (fresh (policyFrom p))))
+    → P (started t p)
+unfolding started
+started-cases P t p room policy done =
+    cases P (eqb (length t) 584)
+    (λ l. cases P (policyFits p) (λ f. done) (λ f. policy (eqb-true (length t) 584 l) f))
+    (λ l. room (eqb-false (length t) 584 l))
