@@ -19,8 +19,9 @@ RUN :=
 SANITIZED := -sanitized
 else
 CC := x86_64-linux-gnu-gcc -static
-CXX := x86_64-linux-gnu-g++ -static
-RUN := qemu-x86_64
+# not -static: the cross libm.a is a linker script whose paths Debian leaves as they are on x86-64
+CXX := x86_64-linux-gnu-g++
+RUN := qemu-x86_64 -L /usr/x86_64-linux-gnu
 SANITIZED :=
 endif
 WARNINGS := -Wall -Wextra -pedantic -Werror
@@ -131,7 +132,7 @@ test-outside: build/outside $(SANITIZED:%=build/outside%) tests/outside/*.txt
 # `rt ci` tries.
 test-cases: build/replay
 	tests/cases/make-replay --check
-	tests/cases/try-frames $<
+	tests/cases/try-frames $(RUN) $(abspath $<)
 
 test-promises: tests/promises
 	tests/promises
