@@ -16,12 +16,12 @@ use Rattle.records.specs.Numbers.{acaNumber}
 use Rattle.records.specs.Records.{headerBytes}
 use Rattle.records.specs.Tables.{Bytes, stateOf, tableBytes, reportBytes}
 use Rattle.records.proofs.Good.{table-tested, good-tested, table-good}
-use Rattle.steps.specs.Steps.{losers, keptCount, closedBytes, endsOf}
+use Rattle.steps.specs.Steps.{restatedBytes, losers, keptCount, closedBytes, endsOf}
 use Rattle.steps.proofs.Carried.{withTasks, withPending, settled-table, blocked-table}
 use Rattle.steps.proofs.Closed.{kept-count, losers-are, ends-are, closed-table, joined-table, header-table}
 use Rattle.steps.proofs.Noted.{noted-table}
 use Rattle.rules.specs.Types.{Task, Header, Ended, Allegiance, Clear, Faulted, Notice, Quiet, Reported, OthersLost, NexusLost, UnitWasReset, HardWasReset, PowerCameOn, Joins, NoTask, NewTask, Change, Done, Changes}
-use Rattle.carry.specs.Carrying.{notedUnlessQuiet, joinedBytes, restatedBytes, HeaderKept}
+use Rattle.carry.specs.Carrying.{notedUnlessQuiet, joinedBytes, HeaderKept}
 use Rattle.carry.specs.Changes.{ChangeFits, ChangedAs}
 
 module _ (s : State) (eight : length (s .pending) ≡ 8) where

@@ -2,7 +2,6 @@
 --
 --   notedUnlessQuiet k ls b  := the nexus records after a notice, if there is one
 --   joinedBytes j k b        := a task that joins is put at place k
---   restatedBytes a b n l    := the states brought up to date, by the allegiance before and after
 --   HeaderKept t h           := the table has a header record already, of the policy of h
 use Prim.Native.Nat.{ℕ, _+_, _*_, _≤_}
 use mathlib.Core.Bool.{true}
@@ -12,8 +11,8 @@ use lib.ListN.{length}
 use Rattle.laws.specs.Records.{recordAt, putAt}
 use Rattle.rules.specs.Well.{faultFits}
 use Rattle.records.specs.Records.{headerBytes, taskBytes}
-use Rattle.steps.specs.Steps.{settledBytes, blockedBytes, notedBytes}
-use Rattle.rules.specs.Types.{Task, Header, Allegiance, Clear, Faulted, Notice, Quiet, Reported, OthersLost, NexusLost, UnitWasReset, HardWasReset, PowerCameOn, Joins, NoTask, NewTask}
+use Rattle.steps.specs.Steps.{notedBytes}
+use Rattle.rules.specs.Types.{Task, Header, Notice, Quiet, Reported, OthersLost, NexusLost, UnitWasReset, HardWasReset, PowerCameOn, Joins, NoTask, NewTask}
 
 abbrev pub notedUnlessQuiet : Notice → List Task → List ℕ → List ℕ
 notedUnlessQuiet Quiet ls b = b
@@ -27,11 +26,6 @@ notedUnlessQuiet PowerCameOn ls b = notedBytes PowerCameOn ls b
 abbrev pub joinedBytes : Joins → ℕ → List ℕ → List ℕ
 joinedBytes NoTask k b = b
 joinedBytes (NewTask t) k b = putAt 8 b (72 + 8 * k) (taskBytes t)
-
-abbrev pub restatedBytes : Allegiance → Allegiance → ℕ → List ℕ → List ℕ
-restatedBytes before Clear n b = settledBytes n b
-restatedBytes Clear (Faulted f) n b = blockedBytes n b
-restatedBytes (Faulted g) (Faulted f) n b = b
 
 pub record HeaderKept (t : List ℕ) (h : Header) : Type 0 where
   pub long : 8 ≤ length t

@@ -1,12 +1,11 @@
 // A ruling carried out on the lent bytes.
-use records::bytes::put8;
+use close::close_up;
+use note::note;
+use octets::put8;
 use records::header::aca_number;
 use records::tasks::task_bytes;
-use steps::close::close_up;
-use steps::note::note;
-use steps::report::write_report;
-use steps::restate::block;
-use steps::restate::settle;
+use report::write_report;
+use restate::restate;
 use values::Allegiance;
 use values::Change;
 use values::Header;
@@ -24,7 +23,7 @@ ghost use Rattle.laws.specs.Records.{putAt};
 ghost use Rattle.records.specs.Records.{headerBytes};
 ghost use Rattle.records.specs.Tables.{stateOf, tableBytes, reportBytes, goodTable};
 ghost use Rattle.steps.specs.Steps.{losers};
-ghost use Rattle.carry.specs.Carrying.{notedUnlessQuiet, joinedBytes, restatedBytes, HeaderKept};
+ghost use Rattle.carry.specs.Carrying.{notedUnlessQuiet, joinedBytes, HeaderKept};
 ghost use Rattle.carry.specs.Changes.{ChangeFits, ChangedAs};
 
 fn note_if(t: &mut [u8], n: usize, w: Sweep, k: Notice)
@@ -53,19 +52,6 @@ fn join(t: &mut [u8], k: usize, j: Joins) -> usize
             put8(t, 72 + 8 * k, task_bytes(x));
             k + 1
         }
-    }
-}
-
-fn restate(t: &mut [u8], n: usize, before: Allegiance, after: Allegiance)
-    requires { ⌜ (length (now t) ≡ 584) × (n ≤ 64) ⌝ }
-    ensures { λ _. ⌜ now (t .exit) ≡ restatedBytes before after n (now (t .entry)) ⌝ }
-{
-    match after {
-        Allegiance::Clear => settle(t, n),
-        Allegiance::Faulted(_) => match before {
-            Allegiance::Clear => block(t, n),
-            Allegiance::Faulted(_) => {}
-        },
     }
 }
 

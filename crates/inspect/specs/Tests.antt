@@ -8,21 +8,19 @@
 --   Spared ks n         := the first n of the 68 are tasks' keys, the others spare
 --   recordsFit n aca b  := the records behind a header that says n tasks and aca are good, their states fit, and no two share a name
 --   tableTest b         := the test of a table in code's order; that it is `goodTable` is proved (proofs/TableTest)
---   searchedTurn aca run ts  := whose turn it is, by two searches
 use Prim.Native.Nat.{ℕ, zero, suc, _+_, _-_, _*_, _<_, _≤_}
 use mathlib.Core.Path.{_≡_}
 use mathlib.Core.Bool.{Bool, true, _&&_, not}
 use mathlib.Core.List.{List, [], _∷_}
 use lib.Dec.{eqb}
 use lib.ListN.{length, getD, take, drop}
-use Rattle.laws.specs.Lists.{any, first}
+use Rattle.laws.specs.Lists.{any}
 use Rattle.laws.specs.Records.{recordAt}
-use Rattle.rules.specs.Tasks.{places, nexuses, acaTask, enabledHead, enabledPlain}
+use Rattle.rules.specs.Tasks.{places, nexuses}
 use Rattle.records.specs.Records.{headSize, taskSize, headerFrom, headerFits, taskFrom, taskFits}
 use Rattle.records.specs.Tables.{tableSize, nexusesAt, tasksAt, countIn, nexusesFit, unusedFit}
 use Rattle.decide.specs.Walks.{noOlder, behindBy, fitsBy}
-use Rattle.decide.specs.Searches.{foundIn, chosen, turnFound}
-use Rattle.rules.specs.Types.{Task, Allegiance, Clear, Faulted, Turn}
+use Rattle.rules.specs.Types.{Task, Allegiance}
 use Rattle.decide.specs.declared.states.Older.{Older}
 
 unfoldable pub usedFit : ℕ → Allegiance → Older → List ℕ → Bool
@@ -49,10 +47,6 @@ spareKey = 0x0100_0000
 pub record Spared (ks : List ℕ) (n : ℕ) : Type 0 where
   pub low : (i : ℕ) → i < n → getD ks i 0 < spareKey
   pub spare : (i : ℕ) → n ≤ i → i < 68 → getD ks i 0 ≡ spareKey
-
-abbrev pub searchedTurn : Allegiance → ℕ → List Task → Turn
-searchedTurn (Faulted f) run ts = turnFound (foundIn (first acaTask ts))
-searchedTurn Clear run ts = turnFound (chosen (foundIn (first enabledHead ts)) (foundIn (first enabledPlain ts)) run)
 
 abbrev pub recordsFit : ℕ → Allegiance → List ℕ → Bool
 recordsFit n aca b =

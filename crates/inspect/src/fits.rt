@@ -2,8 +2,8 @@
 use decide::states::behind;
 use decide::states::fits;
 use decide::states::no_older;
-use records::bytes::get8;
-use records::bytes::load8;
+use octets::get8;
+use octets::load8;
 use records::header::header_fits;
 use records::header::header_from;
 use records::nexus::nexus_fits;

@@ -1,3 +1,2 @@
-// Whether a table is well formed, and searches over one that is.
-pub mod find;
+// Whether a table is well formed.
 pub mod fits;

@@ -5,7 +5,8 @@ use mathlib.Core.Option.{some}
 use lib.Dec.{eqb}
 use Rattle.rules.specs.Rules.{onlyIf, ended, asksAca, check2, enter}
 use Rattle.rules.specs.Types.{Entry, Allegiance, Clear, Faulted, Header, Pending, Keeps}
-use Rattle.judge.specs.Entries.{heldOff, heldStatus, checksPastAca}
+use Rattle.parts.specs.Checks.{heldOff, heldStatus}
+use Rattle.judge.specs.Entries.{checksPastAca}
 
 check2-is :
     (aca : Allegiance) (c : Entry) (has : Bool)

@@ -1,25 +1,14 @@
--- The checks at entry, as code asks them.
+-- Checks 3 to 6 at entry, as code asks them.
 --
---   heldOff aca n asks has   := check 2 stops a command of nexus n; asks: for attribute ACA; has: there is an ACA task
---   heldStatus aca n naca    := the status that it gives
 --   reporting h n b          := the ruling of check 3 on the bit b of nexus n
 --   lastChecks h c           := checks 4 to 6
 --   checksPastAca h c p      := checks 3 to 6
 use Prim.Native.Nat.{ℕ}
-use mathlib.Core.Bool.{Bool, false, cond, _||_, _&&_, not}
+use mathlib.Core.Bool.{cond}
 use mathlib.Core.List.{[], _∷_}
-use lib.Dec.{eqb}
 use Rattle.rules.specs.Bits.{top, senseFor}
 use Rattle.rules.specs.Rules.{check3, check4, check5, accepting, decide}
-use Rattle.rules.specs.Types.{Entry, Allegiance, Clear, Faulted, Header, Pending, Bit, NoBit, EndedAtEntry, Done, Nobody, NoTask, Reported, Ruling, Changes}
-
-abbrev pub heldOff : Allegiance → ℕ → Bool → Bool → Bool
-heldOff Clear n asks has = false
-heldOff (Faulted f) n asks has = not (eqb n f && asks && not has)
-
-abbrev pub heldStatus : Allegiance → ℕ → Bool → ℕ
-heldStatus Clear n naca = 0x30
-heldStatus (Faulted f) n naca = cond (eqb n f || naca) 0x30 0x08
+use Rattle.rules.specs.Types.{Entry, Header, Pending, Bit, NoBit, EndedAtEntry, Done, Nobody, NoTask, Reported, Ruling, Changes}
 
 abbrev pub reporting : Header → ℕ → Bit → Ruling
 reporting h n b =

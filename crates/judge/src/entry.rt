@@ -1,11 +1,14 @@
 // Entry of a command: the checks in document 01's order.
 use decide::pending::sense_for;
-use decide::pending::top_bit;
-use decide::states::is_aca;
-use values::Allegiance;
+use parts::asks_aca;
+use parts::attribute_of;
+use parts::bad_attribute;
+use parts::bit_if;
+use parts::held_off;
+use parts::held_status;
+use parts::is_full;
+use parts::sweeping_by;
 use values::Answer;
-use values::Asked;
-use values::Attribute;
 use values::Bit;
 use values::Change;
 use values::Entry;
@@ -20,12 +23,8 @@ use values::Task;
 use values::TaskState;
 use values::Top;
 ghost use mathlib.Core.Path.{_≡_};
-ghost use mathlib.Core.Bool.{cond};
-ghost use Rattle.rules.specs.Bits.{top};
-ghost use Rattle.rules.specs.Rulings.{isClear};
-ghost use lib.Dec.{leb};
-ghost use Rattle.rules.specs.Rules.{sweeping, ended, checked, asksAca, badAttribute, attributeOf, newTask, accepting};
-ghost use Rattle.judge.specs.Entries.{heldOff, heldStatus, reporting, lastChecks, checksPastAca};
+ghost use Rattle.rules.specs.Rules.{ended, checked, newTask, accepting};
+ghost use Rattle.judge.specs.Entries.{reporting, lastChecks, checksPastAca};
 
 fn ended_with(status: u8) -> Answer
     ensures { λ r. ⌜ r ≡ ended status ⌝ }
@@ -53,88 +52,6 @@ fn checked_with(key: u8, code: u8, qualifier: u8) -> Answer
     )
 }
 
-pub fn sweeping_by(h: Header, w: Sweep) -> Change
-    ensures { λ r. ⌜ r ≡ sweeping h w ⌝ }
-{
-    Change {
-        sweep: w,
-        joins: Joins::NoTask,
-        header: h,
-        notice: Notice::Quiet,
-    }
-}
-
-fn asks_aca(asked: Asked) -> bool
-    ensures { λ r. ⌜ r ≡ asksAca asked ⌝ }
-{
-    match asked {
-        Asked::Known(a) => is_aca(a),
-        Asked::NoneOfFour => false,
-    }
-}
-
-// Check 2 stops the command.
-fn held_off(aca: Allegiance, n: u8, asks: bool, has_aca: bool) -> bool
-    ensures { λ r. ⌜ r ≡ heldOff aca n asks «has_aca» ⌝ }
-{
-    match aca {
-        Allegiance::Clear => false,
-        Allegiance::Faulted(f) => !((n == f) & asks & !has_aca),
-    }
-}
-
-fn status_if(b: bool, yes: u8, other: u8) -> u8
-    ensures { λ r. ⌜ r ≡ cond b yes other ⌝ }
-{
-    if b { yes } else { other }
-}
-
-// The status that check 2 gives.
-fn held_status(aca: Allegiance, n: u8, naca: bool) -> u8
-    ensures { λ r. ⌜ r ≡ heldStatus aca n naca ⌝ }
-{
-    match aca {
-        Allegiance::Clear => 0x30,
-        Allegiance::Faulted(f) => status_if((n == f) | naca, 0x30, 0x08),
-    }
-}
-
-fn bit_if(exempt: bool, p: Pending) -> Top
-    ensures { λ r. ⌜ r ≡ cond exempt Top.NoBit (top p) ⌝ }
-{
-    if exempt {
-        return Top::NoBit;
-    }
-    top_bit(p)
-}
-
-fn is_clear(aca: Allegiance) -> bool
-    ensures { λ r. ⌜ r ≡ isClear aca ⌝ }
-{
-    match aca {
-        Allegiance::Clear => true,
-        Allegiance::Faulted(_) => false,
-    }
-}
-
-fn bad_attribute(aca: Allegiance, asked: Asked) -> bool
-    ensures { λ r. ⌜ r ≡ badAttribute aca asked ⌝ }
-{
-    match asked {
-        Asked::Known(a) => is_aca(a) & is_clear(aca),
-        Asked::NoneOfFour => true,
-    }
-}
-
-fn attribute_of(asked: Asked) -> Attribute
-    ensures { λ r. ⌜ r ≡ attributeOf asked ⌝ }
-{
-    match asked {
-        Asked::Known(a) => a,
-        Asked::NoneOfFour => Attribute::Simple,
-    }
-}
-
 fn new_task(c: Entry) -> Task
     ensures { λ r. ⌜ r ≡ newTask c ⌝ }
 {
@@ -157,12 +74,6 @@ fn accepted(h: Header, c: Entry) -> Change
         header: h,
         notice: Notice::Quiet,
     }
-}
-
-fn is_full(h: Header) -> bool
-    ensures { λ r. ⌜ r ≡ leb 64 (h .count) ⌝ }
-{
-    64 <= h.count
 }
 
 // Checks 4 to 6.

@@ -9,8 +9,8 @@ use mathlib.Core.List.{List, [], _++_, append-assoc}
 use lib.ListN.{length, take, drop, length-drop}
 use lib.Seq.{drop-drop, take-all}
 use Rattle.operations.specs.Operations.{outcome}
-use Rattle.dedakhumi.specs.Boundary.{answered}
-use Rattle.player.specs.Lines.{line, Written}
+use Rattle.numbers.specs.Boundary.{answered}
+use Rattle.lines.specs.Lines.{line, Written}
 use Rattle.player.specs.Played.{Run, behind, played}
 
 -- a piece is a whole record, or all that is left

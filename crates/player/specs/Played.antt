@@ -4,15 +4,16 @@
 --   Run                   := the lines written, and the table and the report buffer afterwards
 --   behind ls p           := the run p with the lines ls before its own
 --   played n t r es       := the run over the first n pieces of es, from the table t and the report buffer r
+--   OnePlayed o ..        := what the buffers at exit have to be after one piece that apply answered with o, its line put at `at` of `out`
 --   PlayedAs p ..         := what the buffers at exit have to be, with lines up to `end` of `out`
-use Prim.Native.Nat.{ℕ, zero, suc, _+_, _/_}
+use Prim.Native.Nat.{ℕ, zero, suc, _+_, _/_, _≤_}
 use mathlib.Core.Path.{_≡_}
 use mathlib.Core.List.{List, [], _++_}
 use lib.ListN.{take, drop}
 use Rattle.io.specs.Counts.{Counts}
-use Rattle.operations.specs.Operations.{outcome}
-use Rattle.dedakhumi.specs.Boundary.{answered}
-use Rattle.player.specs.Lines.{line}
+use Rattle.operations.specs.Operations.{Outcome, outcome}
+use Rattle.numbers.specs.Boundary.{answered}
+use Rattle.lines.specs.Lines.{line, Written}
 
 abbrev pub pieces : ℕ → ℕ
 pieces n = (n + 7) / 8
@@ -31,6 +32,12 @@ played zero t r es = record { lines = []; table = t; report = r }
 played (suc n) t r es =
     behind (line (answered (outcome t r (take 8 es))))
     (played n ((outcome t r (take 8 es)) .table) ((outcome t r (take 8 es)) .report) (drop 8 es))
+
+pub record OnePlayed (o : Outcome) (before : List ℕ) (at : ℕ) (t r out : List ℕ) (end : ℕ) : Type 0 where
+  pub text : Written before at out end (line (answered o))
+  pub short : end ≤ at + 20
+  pub table : t ≡ o .table
+  pub report : r ≡ o .report
 
 pub record PlayedAs (p : Run) (t r out : List ℕ) (end : ℕ) : Type 0 where
   pub lines : take end out ≡ p .lines

@@ -1,5 +1,4 @@
 // Plays event records from standard input and writes a line for each.
-mod lines;
 mod play;
 
 use crate::play::play;

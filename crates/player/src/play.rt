@@ -1,17 +1,15 @@
 // Event bytes played piece by piece, their lines put into a buffer.
-use crate::lines::put_line;
 use dedakhumi::dedakhumi_apply;
+use lines::put_line;
 ghost use Prim.Native.Nat.{_+_, _*_, _≤_, min};
 ghost use mathlib.Core.Path.{_≡_};
 ghost use lib.ListN.{length};
 ghost use Rattle.operations.specs.Operations.{outcome};
-ghost use Rattle.dedakhumi.specs.Boundary.{answered};
-ghost use Rattle.player.specs.Lines.{line, Written};
-ghost use Rattle.player.specs.Played.{pieces, played, PlayedAs};
+ghost use Rattle.player.specs.Played.{pieces, played, OnePlayed, PlayedAs};
 
 fn play_one(table: &mut [u8], report: &mut [u8], event: &[u8], out: &mut [u8], at: usize) -> usize
     requires { ⌜ at + 20 ≤ length (now out) ⌝ }
-    ensures { λ r. ⌜ Written (now (out .entry)) at (now (out .exit)) r (line (answered (outcome (now (table .entry)) (now (report .entry)) (now (event .entry))))) × (r ≤ at + 20) × (now (table .exit) ≡ (outcome (now (table .entry)) (now (report .entry)) (now (event .entry))) .table) × (now (report .exit) ≡ (outcome (now (table .entry)) (now (report .entry)) (now (event .entry))) .report) ⌝ }
+    ensures { λ r. ⌜ OnePlayed (outcome (now (table .entry)) (now (report .entry)) (now (event .entry))) (now (out .entry)) at (now (table .exit)) (now (report .exit)) (now (out .exit)) r ⌝ }
 {
     let a = dedakhumi_apply(table, report, event);
     put_line(out, at, a)

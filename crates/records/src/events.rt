@@ -1,10 +1,10 @@
 // An event record decoded to an event or a refusal.
-use crate::bytes::bit_of;
-use crate::bytes::get8;
-use crate::bytes::is_marked;
-use crate::bytes::tag_from;
 use crate::tasks::attribute_fits;
 use crate::tasks::attribute_from;
+use octets::bit_of;
+use octets::get8;
+use octets::is_marked;
+use octets::tag_from;
 use values::Asked;
 use values::Entry;
 use values::Event;

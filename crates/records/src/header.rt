@@ -1,7 +1,7 @@
 // The header record.
-use crate::bytes::bit_of;
-use crate::bytes::flag_byte;
-use crate::bytes::is_marked;
+use octets::bit_of;
+use octets::flag_byte;
+use octets::is_marked;
 use values::Allegiance;
 use values::Header;
 use values::Policy;

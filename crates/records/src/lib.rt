@@ -1,5 +1,4 @@
 // Records of bytes to values and back.
-pub mod bytes;
 pub mod events;
 pub mod header;
 pub mod nexus;

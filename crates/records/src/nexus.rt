@@ -1,7 +1,7 @@
 // The nexus records: pending bits.
-use crate::bytes::bit_of;
-use crate::bytes::flag_byte;
-use crate::bytes::word_of;
+use octets::bit_of;
+use octets::flag_byte;
+use octets::word_of;
 use values::Pending;
 ghost use mathlib.Core.Path.{_≡_};
 ghost use Rattle.records.specs.Numbers.{pendingNumber, pendingFrom};

@@ -1,10 +1,10 @@
 // Task records, used and unused, and ended ones.
-use crate::bytes::flag_byte;
-use crate::bytes::is_marked;
-use crate::bytes::tag_from;
-use crate::bytes::tag_high;
-use crate::bytes::tag_low;
-use crate::bytes::word_of;
+use octets::flag_byte;
+use octets::is_marked;
+use octets::tag_from;
+use octets::tag_high;
+use octets::tag_low;
+use octets::word_of;
 use values::Attribute;
 use values::Tag;
 use values::Task;

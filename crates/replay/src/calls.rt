@@ -1,11 +1,11 @@
 // The three operations, each with all that is seen of it.
-use crate::dump::print_dump;
-use crate::print::print;
-use crate::print::print_field;
-use crate::print::print_hex;
-use crate::print::print_hexes;
-use dedakhumi::numbers::Answered;
-use dedakhumi::numbers::NamedTurn;
+use dump::print::print;
+use dump::print::print_field;
+use dump::print::print_hex;
+use dump::print::print_hexes;
+use dump::print_dump;
+use numbers::Answered;
+use numbers::NamedTurn;
 
 pub fn start(table: &mut [u8], policy: u8) {
     let answer = dedakhumi::dedakhumi_start(table, policy);

@@ -1,16 +1,12 @@
 // Runs the cases of crates/cases over the compiled operations and writes all that is seen. What the operations do is proved in dedakhumi: this
 // program only shows it, and rt compares what it writes with what the cases list (tests/cases/make-replay).
-mod buffers;
 mod calls;
-mod dump;
-mod frames;
-mod print;
 mod stage;
 
-use crate::frames::read_head;
 use crate::stage::Lent;
 use crate::stage::Next;
 use crate::stage::play_frame;
+use frames::read_head;
 
 // Nothing says that the input ends, so the loop counts its turns down.
 fn play_all(table: &mut [u8], report: &mut [u8]) {

@@ -1,12 +1,12 @@
 // What each frame does to the two lent buffers, and what it writes.
-use crate::buffers::copy;
-use crate::buffers::within;
 use crate::calls::apply;
 use crate::calls::name;
 use crate::calls::start;
-use crate::frames::Frame;
-use crate::frames::read_payload;
-use crate::print::print;
+use dump::print::print;
+use frames::Frame;
+use frames::buffers::copy;
+use frames::buffers::within;
+use frames::read_payload;
 
 // How many bytes of the table and of the report buffer are lent.
 pub struct Lent {

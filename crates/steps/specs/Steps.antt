@@ -2,6 +2,7 @@
 --
 --   settledBytes n b     := the states of the first n tasks settled
 --   blockedBytes n b     := of the first n tasks the enabled ones blocked
+--   restatedBytes a c n b := the states brought up to date, by the allegiance before and after
 --   vacatedBytes i n b   := n task records from the i-th on made unused
 --   goneBy w r           := the task of the record ends under the sweep w
 --   endsNobody w         := the sweep is the one under which no task ends
@@ -23,7 +24,7 @@ use Rattle.rules.specs.Rulings.{kept, lost, fateOf, endedFrom}
 use Rattle.records.specs.Numbers.{attributeFrom, stateNumber, stateFrom, pendingNumber, pendingFrom}
 use Rattle.records.specs.Records.{nexusSize, taskSize, taskFrom, unusedBytes}
 use Rattle.decide.specs.Walks.{noOlder, behindBy, eligibleBy}
-use Rattle.rules.specs.Types.{Task, Pending, Ended, Fate, Stays, Ends, Sweep, Nobody, OneTask, NexusTasks, AcaTask, AllTasks, ClearedBy, FailedTask, Notice, Quiet, Reported, OthersLost, NexusLost, UnitWasReset, HardWasReset, PowerCameOn}
+use Rattle.rules.specs.Types.{Task, Allegiance, Clear, Faulted, Pending, Ended, Fate, Stays, Ends, Sweep, Nobody, OneTask, NexusTasks, AcaTask, AllTasks, ClearedBy, FailedTask, Notice, Quiet, Reported, OthersLost, NexusLost, UnitWasReset, HardWasReset, PowerCameOn}
 use Rattle.decide.specs.declared.states.Older.{Older}
 use Rattle.records.specs.Tables.{nexusesAt, tasksAt, tasksFrom, unusedRecords}
 
@@ -46,6 +47,11 @@ nextPlace i r = i + 1
 
 unfoldable pub blockedBytes : ℕ → List ℕ → List ℕ
 blockedBytes n b = take tasksAt b ++ eachRecord taskSize blockedRecord nextPlace 0 n (drop tasksAt b)
+
+abbrev pub restatedBytes : Allegiance → Allegiance → ℕ → List ℕ → List ℕ
+restatedBytes before Clear n b = settledBytes n b
+restatedBytes Clear (Faulted f) n b = blockedBytes n b
+restatedBytes (Faulted g) (Faulted f) n b = b
 
 -- Closing up -------------------------------------------------------------------------------------------------------------------------------
 

@@ -1,13 +1,13 @@
 // Apply one event.
 use carry::change::change;
 use inspect::fits::table_fits;
-use records::bytes::get8;
+use octets::get8;
 use records::events::EventRead;
 use records::events::event_of;
 use records::header::header_from;
+use report::zero_rest;
 use ruling::rule::nexus_of;
 use ruling::rule::rule;
-use steps::report::zero_rest;
 use values::Answer;
 use values::Applied;
 use values::Event;

@@ -1,7 +1,7 @@
 // Name the task whose turn it is.
-use inspect::find::turn_in;
+use find::turn_in;
 use inspect::fits::table_fits;
-use records::bytes::get8;
+use octets::get8;
 use records::header::header_from;
 use values::Answer;
 use values::Naming;

@@ -1,6 +1,6 @@
 // Start a fresh table.
 use decide::pending::after_power_on;
-use records::bytes::put8;
+use octets::put8;
 use records::header::header_bytes;
 use records::header::policy_fits;
 use records::header::policy_from;

@@ -65,11 +65,11 @@ play-spec =
     let inside : loop .i < pieces (length es) = omega arith in
     record {
       played-on = onward es (loop .table) (loop .report) (pieces (length es)) (loop .i) inside (piece es (8 * loop .i) (least .least .result) (omega arith) (least .least .ensures))
-          (one .ensures .0) (one .ensures .2) (one .ensures .3) (inv .played-on);
+          (one .ensures .text) (one .ensures .table) (one .ensures .report) (inv .played-on);
       table-long = one .kept .0 ∙ inv .table-long;
       report-long = one .kept .1 .0 ∙ inv .report-long;
-      out-long = one .ensures .0 .long ∙ inv .out-long;
-      room = omega (arith, one .ensures .1);
+      out-long = one .ensures .text .long ∙ inv .out-long;
+      room = omega (arith, one .ensures .short);
       passed = omega arith;
     })
     (λ c. c .before .loop .inv .table-long)

@@ -14,4 +14,9 @@ play-one-spec =
     (λ c.
     let applied = c .before .before .before .before .before .before .before .before .dedakhumi-apply .ensures in
     let written = c .before .before .put-line .ensures in
-    (rw (applied .0) at (written .0), written .1, applied .1, applied .2)))
+    record {
+      text = rw (applied .answer) at (written .0);
+      short = written .1;
+      table = applied .table;
+      report = applied .report;
+    }))

@@ -1,0 +1,46 @@
+// Searches over the used records, and whose turn it is.
+use octets::get8;
+use records::tasks::task_from;
+use turns::Found;
+use turns::Want;
+use turns::choose;
+use turns::turn_of;
+use turns::wants;
+use values::Allegiance;
+use values::Turn;
+ghost use mathlib.Core.Path.{_≡_};
+ghost use Prim.Native.Nat.{_≤_};
+ghost use lib.ListN.{length, drop};
+ghost use Rattle.laws.specs.Lists.{first};
+ghost use Rattle.turns.specs.Searches.{wanted, foundIn, searchedTurn};
+ghost use Rattle.records.specs.Tables.{tasksFrom};
+
+// The oldest of the first n tasks that the search wants.
+pub fn search(t: &[u8], n: usize, w: Want) -> Found
+    requires { ⌜ (length (now t) ≡ 584) × (n ≤ 64) ⌝ }
+    ensures { λ r. ⌜ r ≡ foundIn (first (wanted w) (tasksFrom n (drop 72 (now (t .entry))))) ⌝ }
+{
+    let mut i: usize = 0;
+    while i < n {
+        let k = task_from(get8(t, 72 + 8 * i));
+        if wants(w, k) {
+            return Found::Here(k);
+        }
+        i += 1;
+    }
+    Found::Nowhere
+}
+
+pub fn turn_in(t: &[u8], n: usize, aca: Allegiance, run: u8) -> Turn
+    requires { ⌜ (length (now t) ≡ 584) × (n ≤ 64) ⌝ }
+    ensures { λ r. ⌜ r ≡ searchedTurn aca run (tasksFrom n (drop 72 (now (t .entry)))) ⌝ }
+{
+    match aca {
+        Allegiance::Faulted(_) => turn_of(search(t, n, Want::TheAca)),
+        Allegiance::Clear => turn_of(choose(
+            search(t, n, Want::TheHead),
+            search(t, n, Want::ThePlain),
+            run,
+        )),
+    }
+}
