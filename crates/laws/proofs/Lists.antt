@@ -1,12 +1,12 @@
--- Laws of `any`, `count` and `first`.
+-- Laws of `any`, `count`, `first` and `passing`.
 use Prim.Native.Nat.{_+_}
-use mathlib.Core.Bool.{Bool, true, false, cond, or-true as or-on}
-use mathlib.Core.Path.{_≡_, refl}
+use mathlib.Core.Bool.{Bool, true, false, cond, not, or-true as or-on}
+use mathlib.Core.Path.{_≡_, refl, ap, sym}
 use mathlib.Core.List.{List, [], _∷_, _++_}
-use mathlib.Core.Option.{some}
+use mathlib.Core.Option.{none, some}
 use native.Mathlib.Omega.{arith}
-use Rattle.laws.specs.Lists.{any, count, first}
-use Rattle.laws.proofs.Bools.{or-false, none-some}
+use Rattle.laws.specs.Lists.{any, count, first, passing}
+use Rattle.laws.proofs.Bools.{or-false, none-some, split}
 
 module _ {A : Type 0} where
   pub count-append : (p : A → Bool) (xs ys : List A) → count p (xs ++ ys) ≡ count p xs + count p ys
@@ -29,6 +29,10 @@ module _ {A : Type 0} where
   any-never q [] h = refl
   any-never q (x ∷ xs) h = rw (h x) (any-never q xs h)
 
+  pub any-others : (q : A → Bool) (xs : List A) → any q (passing (λ x. not (q x)) xs) ≡ false
+  any-others q [] = refl
+  any-others q (x ∷ xs) = split (q x) (λ h. rw h (any-others q xs)) (λ h. rw (h, h) (any-others q xs))
+
   -- the first that passes, found at the head or further on
   pub first-cases {ℓ} :
       {P : Type ℓ} (p : A → Bool) (x : A) (xs : List A) (y : A) → first p (x ∷ xs) ≡ some y
@@ -48,6 +52,20 @@ module _ {A : Type 0} where
   first-any p q [] y e h = none-some y e
   first-any p q (x ∷ xs) y e h =
       first-cases p x xs y e (λ a b. rw (b, h)) (λ a b. rw (first-any p q xs y b h) (or-on (q x)))
+
+  -- none that passes is found: there is none
+  pub first-none : (p : A → Bool) (xs : List A) → first p xs ≡ none → any p xs ≡ false
+  first-none p [] e = refl
+  first-none p (x ∷ xs) e = split (p x) (λ h. none-some x (sym (rw h at e))) (λ h. rw h (first-none p xs (rw h at e)))
+
+  -- what is found stands in the list
+  pub first-stands :
+      (p : A → Bool) (xs : List A) (y : A) → first p xs ≡ some y
+      → (before : List A) × (behind : List A) × (xs ≡ before ++ (y ∷ behind))
+  first-stands p [] y e = none-some y e
+  first-stands p (x ∷ xs) y e =
+      first-cases p x xs y e (λ a b. ([], xs, rw b refl))
+      (λ a b. let r = first-stands p xs y b in (x ∷ r .0, r .1, ap {B = List A} (λ l. x ∷ l) (r .2)))
 
   pub first-append :
       {P : Type 0} (p : A → Bool) (xs ys : List A) (y : A) → first p (xs ++ ys) ≡ some y

@@ -1,5 +1,5 @@
 -- Laws of records in a list of bytes, over their width.
-use Prim.Native.Nat.{ℕ, suc, _+_, _≤_, _<_}
+use Prim.Native.Nat.{ℕ, zero, suc, _+_, _*_, _≤_, _<_}
 use mathlib.Core.Bool.{Bool, true, false}
 use mathlib.Core.Path.{_≡_, refl, ap, sym, _∙_}
 use mathlib.Core.List.{List, [], _∷_, _++_, append-assoc}
@@ -19,6 +19,16 @@ record-rest w l at = sym (take-append-drop w (drop at l)) ∙ ap (λ (z : List �
 -- a byte of a record
 pub record-byte : (w : ℕ) (l : List ℕ) (at i d : ℕ) → i < w → getD (recordAt w l at) i d ≡ getD l (at + i) d
 record-byte w l at i d h = rw (getD-take, getD-drop)
+
+-- a walk that reads every record, at one of its places
+module _ {A : Type 0} (w : ℕ) (g : List ℕ → A) (walk : ℕ → List ℕ → List A)
+    (one : (n : ℕ) (l : List ℕ) → walk (suc n) l ≡ g (take w l) ∷ walk n (drop w l)) where
+  pub walked-at : (n i : ℕ) (b : List ℕ) (at : ℕ) (d : A) → i < n → getD (walk n (drop at b)) i d ≡ g (recordAt w b (at + w * i))
+  walked-at zero i b at d h = absurd (omega arith)
+  walked-at (suc n) zero b at d h = rw (one n (drop at b), (let z : at + w * 0 ≡ at = omega arith in z))
+  walked-at (suc n) (suc i) b at d h =
+      rw (one n (drop at b), drop-drop w at b, (let z : at + w * suc i ≡ at + w + w * i = omega arith in z))
+      (walked-at n i b (at + w) d (omega arith))
 
 -- A record put ---------------------------------------------------------------------------------------------------------------------------
 

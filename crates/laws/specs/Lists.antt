@@ -5,6 +5,7 @@
 --   any p xs        := some element of xs passes p
 --   count p xs      := how many elements of xs pass p
 --   first p xs      := the first element of xs that passes p, or none
+--   passing p xs    := the elements of xs that pass p, in their order
 use Prim.Native.Nat.{ℕ, _+_}
 use mathlib.Core.Bool.{Bool, true, false, cond, _||_}
 use mathlib.Core.List.{List, [], _∷_}
@@ -30,3 +31,7 @@ module _ {A : Type 0} where
   abbrev pub first : (A → Bool) → List A → Option A
   first p [] = none
   first p (x ∷ xs) = cond (p x) (some x) (first p xs)
+
+  abbrev pub passing : (A → Bool) → List A → List A
+  passing p [] = []
+  passing p (x ∷ xs) = cond (p x) (x ∷ passing p xs) (passing p xs)

@@ -12,36 +12,92 @@ use Rattle.rules.specs.Types.{Task, Entry, Finish, Function, Happening, 
 use Rattle.rules.specs.Tasks.{nexuses, isEnabled, acaTask, same, isNamed}
 use Rattle.rules.specs.Bits.{top, senseFor}
 use Rattle.rules.specs.Rulings.{State, pendingOf, turn}
-use Rattle.rules.specs.Rules.{sweeping, checked, onlyIf, check1, asksAca, check2, check3, badAttribute, accepting, decide, enter, finish, complete, manage, happen, nexusOf, ruleFor, ruling}
+use Rattle.rules.specs.Rules.{sweeping, ended, checked, onlyIf, asksAca, check2, check3, badAttribute, accepting, decide, enter, finish, complete, manage, happen, nexusOf, ruleFor, ruling}
 
-only-if : (P : Ruling → Type 0) (b : Bool) (r q : Ruling) → P r → onlyIf b r ≡ some q → P q
-only-if P true r q p e = some-is P r q e p
-only-if P false r q p e = none-some q e
+only-some : (P : Ruling → Type 0) (b : Bool) (r q : Ruling) → (b ≡ true → P r) → onlyIf b r ≡ some q → P q
+only-some P true r q p e = some-is P r q e (p refl)
+only-some P false r q p e = none-some q e
 
 only-none : (b : Bool) (r : Ruling) → onlyIf b r ≡ none → b ≡ false
 only-none true r e = none-some r (sym e)
 only-none false r e = refl
 
 decide-cases :
-    (P : Ruling → Type 0) (o1 o2 o3 : Option Ruling) (b4 b5 : Bool) (r4 r5 r : Ruling)
-    → ((q : Ruling) → o1 ≡ some q → P q) → ((q : Ruling) → o2 ≡ some q → P q) → ((q : Ruling) → o3 ≡ some q → P q) → P r4
-    → P r5 → (o1 ≡ none → o2 ≡ none → b4 ≡ false → b5 ≡ false → P r)
-    → P (decide (o1 ∷ o2 ∷ o3 ∷ onlyIf b4 r4 ∷ onlyIf b5 r5 ∷ []) r)
-decide-cases P (some q) o2 o3 b4 b5 r4 r5 r f1 f2 f3 p4 p5 f = f1 q refl
-decide-cases P none (some q) o3 b4 b5 r4 r5 r f1 f2 f3 p4 p5 f = f2 q refl
-decide-cases P none none (some q) b4 b5 r4 r5 r f1 f2 f3 p4 p5 f = f3 q refl
-decide-cases P none none none true b5 r4 r5 r f1 f2 f3 p4 p5 f = p4
-decide-cases P none none none false true r4 r5 r f1 f2 f3 p4 p5 f = p5
-decide-cases P none none none false false r4 r5 r f1 f2 f3 p4 p5 f = f refl refl refl refl
+    (P : Ruling → Type 0) (b1 : Bool) (o2 o3 : Option Ruling) (b4 b5 : Bool) (r1 r4 r5 r : Ruling)
+    → (b1 ≡ true → P r1)
+    → (b1 ≡ false → (q : Ruling) → o2 ≡ some q → P q)
+    → (b1 ≡ false → o2 ≡ none → (q : Ruling) → o3 ≡ some q → P q)
+    → (b1 ≡ false → o2 ≡ none → o3 ≡ none → b4 ≡ true → P r4)
+    → (b1 ≡ false → o2 ≡ none → o3 ≡ none → b4 ≡ false → b5 ≡ true → P r5)
+    → (b1 ≡ false → o2 ≡ none → o3 ≡ none → b4 ≡ false → b5 ≡ false → P r)
+    → P (decide (onlyIf b1 r1 ∷ o2 ∷ o3 ∷ onlyIf b4 r4 ∷ onlyIf b5 r5 ∷ []) r)
+decide-cases P true o2 o3 b4 b5 r1 r4 r5 r f1 f2 f3 f4 f5 f = f1 refl
+decide-cases P false (some q) o3 b4 b5 r1 r4 r5 r f1 f2 f3 f4 f5 f = f2 refl q refl
+decide-cases P false none (some q) b4 b5 r1 r4 r5 r f1 f2 f3 f4 f5 f = f3 refl refl q refl
+decide-cases P false none none true b5 r1 r4 r5 r f1 f2 f3 f4 f5 f = f4 refl refl refl refl
+decide-cases P false none none false true r1 r4 r5 r f1 f2 f3 f4 f5 f = f5 refl refl refl refl refl
+decide-cases P false none none false false r1 r4 r5 r f1 f2 f3 f4 f5 f = f refl refl refl refl refl
 
-check2-keeps :
-    (P : Ruling → Type 0) (a : Allegiance) (c : Entry) (aca : Bool) (q : Ruling) → ((st : ℕ) (se : Sense) → P (Keeps (EndedAtEntry st se)))
+check2-some :
+    (P : Ruling → Type 0) (a : Allegiance) (c : Entry) (aca : Bool) (q : Ruling)
+    → ((f : ℕ) → a ≡ Faulted f → eqb (c .nexus) f ≡ true → asksAca (c .asked) && not aca ≡ false → P (Keeps (ended 0x30)))
+    → ((f : ℕ) → a ≡ Faulted f → eqb (c .nexus) f ≡ false → P (Keeps (ended (cond (c .naca) 0x30 0x08))))
     → check2 a c aca ≡ some q → P q
-check2-keeps P Clear c aca q k e = none-some q e
-check2-keeps P (Faulted f) c aca q k e =
-    cases (λ o. o ≡ some q → P q) (eqb (c .nexus) f) (λ h. only-if P (not (asksAca (c .asked) && not aca)) _ q (k _ _))
-    (λ h e′. some-is P _ q e′ (k _ _))
+check2-some P Clear c aca q active busy e = none-some q e
+check2-some P (Faulted f) c aca q active busy e =
+    cases (λ o. o ≡ some q → P q) (eqb (c .nexus) f)
+    (λ h. only-some P (not (asksAca (c .asked) && not aca)) _ q (λ k. active f refl h (not-true _ k)))
+    (λ h e′. some-is P _ q e′ (busy f refl h))
     e
+
+check3-some :
+    (P : Ruling → Type 0) (h : Header) (n : ℕ) (o : Top) (q : Ruling)
+    → ((b : Bit) → o ≡ Highest b
+    → P (Changes (EndedAtEntry 0x02 (senseFor b)) (record { sweep = Nobody; joins = NoTask; header = h; notice = Reported n b })))
+    → check3 h n o ≡ some q → P q
+check3-some P h n NoBit q tells e = none-some q e
+check3-some P h n (Highest b) q tells e = some-is P _ q e (tells b refl)
+
+check3-none : (h : Header) (n : ℕ) (o : Top) → check3 h n o ≡ none → o ≡ NoBit
+check3-none h n NoBit e = refl
+check3-none h n (Highest b) e = none-some _ (sym e)
+
+-- a command, by the check that decides it, with what the checks before it said
+pub check-cases :
+    (P : Ruling → Type 0) (h : Header) (c : Entry) (here aca : Bool) (p : Pending)
+    → (here ≡ true → P (Changes (checked 0xB 0x4E 0x00) (sweeping h (NexusTasks (c .nexus)))))
+    → (here ≡ false → (f : ℕ) → h .aca ≡ Faulted f → eqb (c .nexus) f ≡ true → asksAca (c .asked) && not aca ≡ false
+    → P (Keeps (ended 0x30)))
+    → (here ≡ false → (f : ℕ) → h .aca ≡ Faulted f → eqb (c .nexus) f ≡ false → P (Keeps (ended (cond (c .naca) 0x30 0x08))))
+    → (here ≡ false → check2 (h .aca) c aca ≡ none → (b : Bit) → cond (c .exempt) NoBit (top p) ≡ Highest b
+    → P
+    (Changes (EndedAtEntry 0x02 (senseFor b)) (record { sweep = Nobody; joins = NoTask; header = h; notice = Reported (c .nexus) b })))
+    → (here ≡ false → check2 (h .aca) c aca ≡ none → cond (c .exempt) NoBit (top p) ≡ NoBit → badAttribute (h .aca) (c .asked) ≡ true
+    → P (Keeps (checked 0x5 0x49 0x00)))
+    → (here ≡ false → check2 (h .aca) c aca ≡ none → cond (c .exempt) NoBit (top p) ≡ NoBit → badAttribute (h .aca) (c .asked) ≡ false
+    → leb 64 (h .count) ≡ true → P (Keeps (ended 0x28)))
+    → (here ≡ false → check2 (h .aca) c aca ≡ none → cond (c .exempt) NoBit (top p) ≡ NoBit → badAttribute (h .aca) (c .asked) ≡ false
+    → leb 64 (h .count) ≡ false → P (Changes Done (accepting h c)))
+    → P (enter h c here aca p)
+unfolding enter
+check-cases P h c here aca p over active busy tells bad full accepts =
+    decide-cases P here (check2 (h .aca) c aca) (check3 h (c .nexus) first-bit) (badAttribute (h .aca) (c .asked)) (leb 64 (h .count))
+    _
+    _
+    _
+    _
+    over
+    (λ n1 q. check2-some P (h .aca) c aca q (active n1) (busy n1))
+    (λ n1 n2 q. check3-some P h (c .nexus) first-bit q (tells n1 n2))
+    (λ n1 n2 n3. bad n1 n2 (untold n3))
+    (λ n1 n2 n3. full n1 n2 (untold n3))
+    (λ n1 n2 n3. accepts n1 n2 (untold n3))
+  where
+    first-bit : Top
+    first-bit = cond (c .exempt) NoBit (top p)
+
+    untold : check3 h (c .nexus) first-bit ≡ none → first-bit ≡ NoBit
+    untold = check3-none h (c .nexus) first-bit
 
 -- a command: overlapped, kept out, told of an attention, or accepted
 pub enter-cases :
@@ -54,24 +110,11 @@ pub enter-cases :
     → (here ≡ false → check2 (h .aca) c aca ≡ none → badAttribute (h .aca) (c .asked) ≡ false → leb 64 (h .count) ≡ false
     → P (Changes Done (accepting h c)))
     → P (enter h c here aca p)
-unfolding enter
 enter-cases P h c here aca p over keeps notes accepts =
-    decide-cases P (check1 h c here) (check2 (h .aca) c aca) (check3 h (c .nexus) (cond (c .exempt) NoBit (top p)))
-    (badAttribute (h .aca) (c .asked))
-    (leb 64 (h .count))
-    _
-    _
-    _
-    (λ q. only-if P here _ q over)
-    (λ q. check2-keeps P (h .aca) c aca q keeps)
-    (λ q. reports (cond (c .exempt) NoBit (top p)) q)
-    (keeps _ _)
-    (keeps _ _)
-    (λ n1. accepts (only-none here _ n1))
-  where
-    reports : (o : Top) (q : Ruling) → check3 h (c .nexus) o ≡ some q → P q
-    reports NoBit q e = none-some q e
-    reports (Highest b) q e = some-is P _ q e (notes b)
+    check-cases P h c here aca p (λ n1. over) (λ n1 f a e k. keeps _ _) (λ n1 f a e. keeps _ _) (λ n1 n2 b e. notes b)
+    (λ n1 n2 n3 n4. keeps _ _)
+    (λ n1 n2 n3 n4 n5. keeps _ _)
+    (λ n1 n2 n3. accepts n1 n2)
 
 -- a command that passes check 2 in an ACA is of the faulted nexus and asks for attribute ACA, and there is no ACA task
 pub check2-none :

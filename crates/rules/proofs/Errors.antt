@@ -1,6 +1,6 @@
 -- Laws that document 01's plausible errors, and the faults found in the field, would break.
 use Prim.Native.Nat.{ℕ, zero, suc, _+_, _<_}
-use mathlib.Core.Bool.{Bool, true, false, _&&_, not}
+use mathlib.Core.Bool.{Bool, true, false}
 use mathlib.Core.Option.{Option, none, some}
 use mathlib.Core.Path.{_≡_, refl, ap, _∙_}
 use mathlib.Core.List.{List, [], _∷_, _++_, map, append-nil}
@@ -8,31 +8,18 @@ use native.Mathlib.Omega.{arith}
 use lib.Dec.{ltb}
 use lib.ListN.{length, getD, replicate}
 use borrow.Author.Tests.{lt-ltb, eq-eqb}
-use Rattle.laws.specs.Lists.{one-if, any, count, first}
+use Rattle.laws.specs.Lists.{any, first}
 use Rattle.laws.proofs.Bools.{not-both, cases}
-use Rattle.laws.proofs.Lists.{any-never}
-use Rattle.rules.specs.Types.{Attribute, Simple, HeadOfQueue, Ordered, Aca, TaskState, Dormant, Enabled, Blocked, Task, Finish, Good, CheckCondition, Management, Condition, AbortTask, AbortTaskSet, PowerOn, Allegiance, Clear, Faulted, Header, Pending, Bit, PowerBit, HardBit, UnitBit, LossBit, ClearedBit, Top, NoBit, Highest, Fate, Stays, Ends, Sweep, OneTask, AllTasks, FailedTask, Policy, EndAll}
+use Rattle.rules.specs.Types.{Attribute, Simple, HeadOfQueue, Ordered, Aca, Task, Finish, Good, CheckCondition, Management, Condition, AbortTask, AbortTaskSet, PowerOn, Allegiance, Clear, Header, Pending, Bit, Top, NoBit, Highest, AllTasks, FailedTask, Policy, EndAll}
 use Rattle.values.specs.Headers.{runAfter}
-use Rattle.rules.specs.Tasks.{nexuses, isPlain, same, withState, eligible, enabledIf, settleFrom, blockedIfEnabled, restate}
+use Rattle.rules.specs.Tasks.{nexuses, isPlain, same, withState, eligible, enabledIf, settleFrom, restate}
 use Rattle.rules.specs.Bits.{noPending, top, afterPowerOn}
-use Rattle.rules.specs.Rulings.{State, fresh, kept, endIf, fateOf, tellLosersFrom, ruled}
+use Rattle.rules.specs.Rulings.{State, fresh, kept, fateOf, tellLosersFrom, ruled}
 use Rattle.rules.specs.Rules.{finish, manage, happen, ruleFor, ruling, step}
-use Rattle.rules.specs.Well.{WellFormed, sameState}
-use Rattle.rules.proofs.Fates.{isEnds, gone}
+use Rattle.rules.specs.Well.{WellFormed}
+use Rattle.rules.specs.Attentions.{ranks, isSet}
+use Rattle.rules.proofs.Fates.{isEnds, all-end, ended-gone}
 use Rattle.rules.proofs.Distinct.{any-restate}
-
--- "dormant ones stay so, even if they become eligible": as an ACA begins there are as many dormant tasks as before
-pub aca-begins-dormant :
-    (n : ℕ) (ts : List Task)
-    → count (λ (t : Task). sameState (t .state) Dormant) (restate Clear (Faulted n) ts)
-    ≡ count (λ (t : Task). sameState (t .state) Dormant) ts
-aca-begins-dormant n [] = refl
-aca-begins-dormant n (t ∷ ts) = omega (arith, aca-begins-dormant n ts, ap one-if (go (t .state)))
-  where
-    go : (st : TaskState) → sameState (blockedIfEnabled st) Dormant ≡ sameState st Dormant
-    go Dormant = refl
-    go Enabled = refl
-    go Blocked = refl
 
 settle-prefix :
     (older : List Attribute) (ts us : List Task) → (rest : List Task) × (settleFrom older (ts ++ us) ≡ settleFrom older ts ++ rest)
@@ -71,18 +58,6 @@ pub turn-resets-run : (h : Header) (f : Finish) (t : Task) → isPlain (t .attri
 turn-resets-run h Good t e = plain-resets (t .attribute) (h .run) e
 turn-resets-run h CheckCondition t e = plain-resets (t .attribute) (h .run) e
 
--- one bit of the five
-abbrev pub isSet : Pending → Bit → Bool
-isSet p PowerBit = p .power
-isSet p HardBit = p .hard
-isSet p UnitBit = p .unit
-isSet p LossBit = p .loss
-isSet p ClearedBit = p .cleared
-
--- "highest rank first: bit 0 power on; bit 1 hard reset; bit 2 logical unit reset; bit 3 I_T nexus loss; bit 4 commands cleared"
-abbrev pub ranks : List Bit
-ranks = PowerBit ∷ HardBit ∷ UnitBit ∷ LossBit ∷ ClearedBit ∷ []
-
 abbrev pub topIs : Option Bit → Top
 topIs none = NoBit
 topIs (some b) = Highest b
@@ -107,26 +82,14 @@ pub aborted-is-gone : (s : State) (n g : ℕ) → n < 8 → any (same n g) ((ste
 unfolding step ruling ruleFor manage
 aborted-is-gone s n g l =
     rw (lt-ltb n 8 l, any-restate (same n g) (λ t st. refl) (s .header .aca) (s .header .aca), append-nil)
-    (gone (same n g) (fateOf (OneTask n g 0xFF)) (s .tasks) (any-never _ (s .tasks) (λ u. ends (same n g u))))
-  where
-    ends : (b : Bool) → b && not (isEnds (endIf b 0xFF)) ≡ false
-    ends true = refl
-    ends false = refl
+    (ended-gone (same n g) 0xFF (s .tasks))
 
-none-kept : (w : Sweep) → ((t : Task) → isEnds (fateOf w t) ≡ true) → (ts : List Task) → kept (map (fateOf w) ts) ts ≡ []
-none-kept w h [] = refl
-none-kept w h (t ∷ ts) = go (fateOf w t) (h t) (none-kept w h ts)
-  where
-    go : (f : Fate) → isEnds f ≡ true → kept (map (fateOf w) ts) ts ≡ [] → kept (f ∷ map (fateOf w) ts) (t ∷ ts) ≡ []
-    go Stays e rest = not-both e refl
-    go (Ends st) e rest = rest
+pub qerr-all-ends : (n g : ℕ) (p : Policy) (t : Task) → p .qerr ≡ EndAll → isEnds (fateOf (FailedTask n g p) t) ≡ true
+qerr-all-ends n g p t e = rw e (cases (λ f. isEnds f ≡ true) (same n g t) (λ s. refl) (λ s. refl))
 
 -- "01b every other task": of whichever nexus
 pub qerr-all-empties : (n g : ℕ) (p : Policy) (ts : List Task) → p .qerr ≡ EndAll → kept (map (fateOf (FailedTask n g p)) ts) ts ≡ []
-qerr-all-empties n g p ts e =
-    none-kept (FailedTask n g p)
-    (λ t. rw e (cases (λ f. isEnds f ≡ true) (same n g t) (λ s. refl) (λ s. refl)))
-    ts
+qerr-all-empties n g p ts e = all-end (fateOf (FailedTask n g p)) ts (λ t. qerr-all-ends n g p t e) .0
 
 all-power : (ps : List Pending) → map afterPowerOn ps ≡ replicate (length ps) (afterPowerOn noPending)
 all-power [] = refl
@@ -141,10 +104,10 @@ power-on-fresh s w = λ i. record { header = head i; pending = pend i; tasks = n
     after = settleFrom [] (kept (map (fateOf AllTasks) (s .tasks)) (s .tasks) ++ [])
 
     none-left : after ≡ []
-    none-left = rw (none-kept AllTasks (λ t. refl) (s .tasks))
+    none-left = rw (all-end (fateOf AllTasks) (s .tasks) (λ t. refl) .0)
 
     head : record { policy = s .header .policy; count = length after; aca = Clear; run = 0 } ≡ (fresh (s .header .policy)) .header
-    head = rw (none-kept AllTasks (λ t. refl) (s .tasks))
+    head = rw (all-end (fateOf AllTasks) (s .tasks) (λ t. refl) .0)
 
     pend : map afterPowerOn (s .pending) ≡ replicate nexuses (afterPowerOn noPending)
     pend = all-power (s .pending) ∙ ap (λ n. replicate n (afterPowerOn noPending)) (w .eight)

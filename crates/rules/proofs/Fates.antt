@@ -1,16 +1,16 @@
 -- Laws of those that stay and those that end.
-use Prim.Native.Nat.{suc, _+_, _≤_, _<_}
-use mathlib.Core.Bool.{Bool, true, false, _&&_, not}
+use Prim.Native.Nat.{ℕ, suc, _+_, _≤_, _<_}
+use mathlib.Core.Bool.{Bool, true, false, cond, _&&_, not}
 use mathlib.Core.Path.{_≡_, refl, ap}
 use mathlib.Core.List.{List, [], _∷_, map}
 use mathlib.Core.Option.{some}
 use native.Mathlib.Omega.{arith}
 use lib.ListN.{length}
-use Rattle.laws.specs.Lists.{one-if, any, count, first}
+use Rattle.laws.specs.Lists.{one-if, any, count, first, passing}
 use Rattle.laws.proofs.Bools.{not-both, or-false, none-some}
-use Rattle.laws.proofs.Lists.{first-cases}
+use Rattle.laws.proofs.Lists.{first-cases, any-others}
 use Rattle.rules.specs.Types.{Task, Fate, Stays, Ends}
-use Rattle.rules.specs.Rulings.{kept, lost, endedFrom}
+use Rattle.rules.specs.Rulings.{endIf, kept, lost, endedFrom, taskName, endedName}
 
 abbrev pub isEnds : Fate → Bool
 isEnds Stays = false
@@ -69,6 +69,34 @@ module _ {A : Type 0} where
       let o = or-false (q x && not (isEnds (fate x))) (any (λ x. q x && not (isEnds (fate x))) xs) e in
       gone-cons q (fate x) (map fate xs) x xs (o .0) (gone q fate xs (o .1))
 
+  -- where each ends, none stays and all are lost
+  pub all-end :
+      (fate : A → Fate) (xs : List A) → ((x : A) → isEnds (fate x) ≡ true)
+      → (kept (map fate xs) xs ≡ []) × (lost (map fate xs) xs ≡ xs)
+  all-end fate [] h = (refl, refl)
+  all-end fate (x ∷ xs) h = go (fate x) (h x) (all-end fate xs h)
+    where
+      go :
+          (f : Fate) → isEnds f ≡ true → (kept (map fate xs) xs ≡ []) × (lost (map fate xs) xs ≡ xs)
+          → (kept (f ∷ map fate xs) (x ∷ xs) ≡ []) × (lost (f ∷ map fate xs) (x ∷ xs) ≡ x ∷ xs)
+      go Stays e rest = not-both e refl
+      go (Ends st) e rest = (rest .0, ap (λ (l : List A). x ∷ l) (rest .1))
+
+  -- where just those that pass q end, the others stay, all of them, in their order
+  pub kept-others : (q : A → Bool) (st : ℕ) (xs : List A) → kept (map (λ x. endIf (q x) st) xs) xs ≡ passing (λ x. not (q x)) xs
+  kept-others q st [] = refl
+  kept-others q st (x ∷ xs) = go (q x) (kept-others q st xs)
+    where
+      go :
+          (b : Bool) → kept (map (λ x. endIf (q x) st) xs) xs ≡ passing (λ x. not (q x)) xs
+          → kept (endIf b st ∷ map (λ x. endIf (q x) st) xs) (x ∷ xs)
+          ≡ cond (not b) (x ∷ passing (λ x. not (q x)) xs) (passing (λ x. not (q x)) xs)
+      go true e = e
+      go false e = rw e
+
+  pub ended-gone : (q : A → Bool) (st : ℕ) (xs : List A) → any q (kept (map (λ x. endIf (q x) st) xs) xs) ≡ false
+  ended-gone q st xs = rw (kept-others q st xs) (any-others q xs)
+
   count-cons-le :
       (q : A → Bool) (f : Fate) (fs : List Fate) (x : A) (xs : List A)
       → count q (kept (f ∷ fs) (x ∷ xs)) ≤ one-if (q x) + count q (kept fs xs)
@@ -123,3 +151,10 @@ length-ended [] ts = refl
 length-ended (f ∷ fs) [] = refl
 length-ended (Stays ∷ fs) (t ∷ ts) = length-ended fs ts
 length-ended (Ends st ∷ fs) (t ∷ ts) = omega (arith, length-ended fs ts)
+
+-- the report has the names of those that ended
+pub report-names : (fs : List Fate) (ts : List Task) → map endedName (endedFrom fs ts) ≡ map taskName (lost fs ts)
+report-names [] ts = refl
+report-names (f ∷ fs) [] = refl
+report-names (Stays ∷ fs) (t ∷ ts) = report-names fs ts
+report-names (Ends st ∷ fs) (t ∷ ts) = rw (report-names fs ts)

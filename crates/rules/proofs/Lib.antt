@@ -10,3 +10,7 @@ pub mod WellSays
 pub mod Turns
 pub mod Order
 pub mod Errors
+pub mod Attentions
+pub mod Entries
+pub mod Ends
+pub mod Refusals

@@ -11,7 +11,7 @@ use Rattle.rules.specs.Rulings.{State}
 use Rattle.rules.specs.Well.{Stands, WellFormed, settled, statesFit}
 use Rattle.rules.proofs.Settled.{settled-cons, settled-ordinary, held-back, oldest-enabled}
 use Rattle.rules.proofs.Held.{held-plain}
-use Rattle.rules.proofs.WellSays.{says-tested}
+use Rattle.rules.proofs.WellSays.{says-tested, clear-settled}
 
 -- HEAD OF QUEUE or ORDERED: what holds a SIMPLE task back
 abbrev pub isBarrier : Attribute → Bool
@@ -41,15 +41,8 @@ no-overtaking s older t younger w e h = behind-any (s .header .aca) older t youn
 pub oldest-runs :
     (s : State) (t : Task) (younger : List Task) → WellFormed s → s .header .aca ≡ Clear → Stands (s .tasks) [] t younger
     → enabledTask t ≡ true
-oldest-runs s t younger w c e =
-    oldest-enabled t younger (go (s .header .aca) (s .tasks) c e (says-tested s w .states))
-  where
-    go : (a : Allegiance) (ts : List Task) → a ≡ Clear → ts ≡ t ∷ younger → statesFit a ts ≡ true → settled [] (t ∷ younger) ≡ true
-    go a ts p q z = rw (p, q) at z
+oldest-runs s t younger w c e = oldest-enabled t younger (rw e at (clear-settled s w c))
 
 -- no task with attribute ACA outlives its ACA
 pub no-aca-task : (s : State) → WellFormed s → s .header .aca ≡ Clear → any acaTask (s .tasks) ≡ false
-no-aca-task s w c = settled-ordinary [] (s .tasks) (go (s .header .aca) c (says-tested s w .states))
-  where
-    go : (a : Allegiance) → a ≡ Clear → statesFit a (s .tasks) ≡ true → settled [] (s .tasks) ≡ true
-    go a p z = rw p at z
+no-aca-task s w c = settled-ordinary [] (s .tasks) (clear-settled s w c)

@@ -3,18 +3,21 @@ use Prim.Native.Nat.{ℕ, _<_}
 use mathlib.Core.Bool.{Bool, true, false, _||_, _&&_, not, or-true as or-on}
 use mathlib.Core.Path.{_≡_, refl, ap}
 use mathlib.Core.List.{List, [], _∷_, _++_}
-use mathlib.Core.Option.{some}
+use mathlib.Core.Option.{Option, none, some}
 use native.Mathlib.Omega.{arith}
 use lib.Dec.{ltb}
-use borrow.Author.Tests.{ltb-true, not-true}
+use borrow.Author.Tests.{ltb-true, lt-ltb, not-true}
 use Rattle.laws.specs.Lists.{one-if, any, count, first}
 use Rattle.laws.proofs.Bools.{and-true, and-false, or-false, or-true, not-both, none-some, cases, split}
-use Rattle.laws.proofs.Lists.{first-cases, first-passes, first-append}
-use Rattle.rules.specs.Types.{Attribute, Simple, HeadOfQueue, Ordered, Aca, Task, Clear, Faulted}
-use Rattle.rules.specs.Tasks.{isHead, isPlain, isAca, acaTask, enabledTask, enabledHead, enabledPlain, same, named}
-use Rattle.rules.specs.Well.{settled, distinct}
-use Rattle.rules.proofs.Distinct.{distinct-first}
-use Rattle.rules.proofs.Settled.{headTask, settled-cons, enabled-head, held-back, oldest-enabled}
+use Rattle.laws.proofs.Lists.{first-cases, first-passes, first-none, first-stands, first-append}
+use Rattle.rules.specs.Types.{Attribute, Simple, HeadOfQueue, Ordered, Aca, Task, Allegiance, Clear, Faulted, Finish, Completion, Nothing, Done}
+use Rattle.rules.specs.Tasks.{isHead, isPlain, isAca, isEnabled, acaTask, enabledTask, enabledHead, enabledPlain, same, named, turnOf, isNamed}
+use Rattle.rules.specs.Rulings.{State, turn}
+use Rattle.rules.specs.Rules.{complete, ruleFor, ruling, answer}
+use Rattle.rules.specs.Well.{Stands, WellFormed, settled, distinct}
+use Rattle.rules.proofs.Distinct.{same-parts, distinct-first}
+use Rattle.rules.proofs.Settled.{headTask, is-aca, settled-cons, enabled-head, held-back, oldest-enabled}
+use Rattle.rules.proofs.WellSays.{says-tested, clear-settled}
 
 -- "With ACA: the ACA task, else nothing"
 pub named-in-aca : (f run : ℕ) (ts : List Task) → named (Faulted f) run ts ≡ first acaTask ts
@@ -48,7 +51,7 @@ head-is Ordered e = not-both e refl
 head-is Aca e = not-both e refl
 
 -- with the oldest a HEAD OF QUEUE task no SIMPLE or ORDERED one is enabled
-pub none-plain : (u : Task) (us : List Task) → settled [] (u ∷ us) ≡ true → headTask u ≡ true → any enabledPlain (u ∷ us) ≡ false
+none-plain : (u : Task) (us : List Task) → settled [] (u ∷ us) ≡ true → headTask u ≡ true → any enabledPlain (u ∷ us) ≡ false
 none-plain u us e h =
     let o = settled-cons [] u us e in
     let a : u .attribute ≡ HeadOfQueue = head-is (u .attribute) h in
@@ -56,19 +59,6 @@ none-plain u us e h =
 
 pub oldest-plain : (u : Task) (us : List Task) → settled [] (u ∷ us) ≡ true → headTask u ≡ false → enabledPlain u ≡ true
 oldest-plain u us e h = rw (head-or-plain (u .attribute) (settled-cons [] u us e .ordinary) h, oldest-enabled u us e)
-
--- an enabled SIMPLE or ORDERED task means that the oldest one is
-pub plain-oldest : (u : Task) (us : List Task) → settled [] (u ∷ us) ≡ true → any enabledPlain (u ∷ us) ≡ true → enabledPlain u ≡ true
-plain-oldest u us e h = split (headTask u) (λ y. not-both h (none-plain u us e y)) (λ y. oldest-plain u us e y)
-
--- so "else the oldest enabled task" is no HEAD OF QUEUE task while a SIMPLE or ORDERED one is enabled
-pub else-plain :
-    (ts : List Task) (x : Task) → settled [] ts ≡ true → any enabledPlain ts ≡ true → first enabledTask ts ≡ some x
-    → enabledPlain x ≡ true
-else-plain [] x e h n = not-both h refl
-else-plain (u ∷ us) x e h n =
-    let p = plain-oldest u us e h in
-    first-cases enabledTask u us x n (λ a b. rw b at p) (λ a b. not-both (oldest-enabled u us e) a)
 
 -- the rule's "else" with a HEAD OF QUEUE task as the oldest does not come up: that task is enabled, and no other is
 pub else-not-head :
@@ -139,23 +129,108 @@ turn-cases {P} run (u ∷ us) t post x e n hit older plain younger =
     (and-true (headTask x) _ (first-passes enabledHead post x d) .0))))
     (λ b y. plain (rw (y, b)))
 
--- a HEAD OF QUEUE task that is named is the oldest enabled one of them
-pub named-head-oldest :
-    (run : ℕ) (ts : List Task) (x : Task) → settled [] ts ≡ true → named Clear run ts ≡ some x → headTask x ≡ true
-    → first enabledHead ts ≡ some x
+-- whoever is named is the first that passes a test, ACA or not
+named-first : (a : Allegiance) (run : ℕ) (ts : List Task) (x : Task) → named a run ts ≡ some x → (p : Task → Bool) × (first p ts ≡ some x)
 unfolding named
-named-head-oldest run [] x e n h = none-some x n
-named-head-oldest run (u ∷ us) x e n h =
-    named-cases run u us x e n (λ k l. k) (λ b y. not-both h (rw b at y))
+named-first (Faulted f) run ts x e = (acaTask, e)
+named-first Clear run ts x e =
+    cases (λ o. o ≡ some x → (p : Task → Bool) × (first p ts ≡ some x))
+    (any enabledHead ts && (ltb run 4 || not (any enabledPlain ts)))
+    (λ b k. (enabledHead, k))
+    (λ b k. (enabledTask, k))
+    e
 
 -- the named task is the one that its nexus and tag find
 pub named-found :
-    (run n g : ℕ) (ts : List Task) (x : Task) → distinct ts ≡ true → named Clear run ts ≡ some x → same n g x ≡ true
+    (a : Allegiance) (run n g : ℕ) (ts : List Task) (x : Task) → distinct ts ≡ true → named a run ts ≡ some x → same n g x ≡ true
     → first (same n g) ts ≡ some x
+named-found a run n g ts x d e h = let o = named-first a run ts x e in distinct-first n g (o .0) ts x d (o .1) h
+
+-- Over well-formed states ------------------------------------------------------------------------------------------------------------------
+
+-- whoever is named is enabled
+named-enabled :
+    (s : State) (x : Task) → WellFormed s → named (s .header .aca) (s .header .run) (s .tasks) ≡ some x → enabledTask x ≡ true
 unfolding named
-named-found run n g ts x d e h =
-    cases (λ o. o ≡ some x → first (same n g) ts ≡ some x)
-    (any enabledHead ts && (ltb run 4 || not (any enabledPlain ts)))
-    (λ b k. distinct-first n g enabledHead ts x d k h)
-    (λ b k. distinct-first n g enabledTask ts x d k h)
-    e
+named-enabled s x w e = go (s .header .aca) refl e
+  where
+    go : (a : Allegiance) → s .header .aca ≡ a → named a (s .header .run) (s .tasks) ≡ some x → enabledTask x ≡ true
+    go (Faulted f) h k =
+        let o = first-stands acaTask (s .tasks) x k in
+        let a = is-aca (x .attribute) (first-passes acaTask (s .tasks) x k) in
+        ap isEnabled (w .with-aca f h (o .0) x (o .1) (o .2) .aca-enabled a)
+    go Clear h k =
+        cases (λ o. o ≡ some x → enabledTask x ≡ true)
+        (any enabledHead (s .tasks) && (ltb (s .header .run) 4 || not (any enabledPlain (s .tasks))))
+        (λ b l. and-true (headTask x) _ (first-passes enabledHead (s .tasks) x l) .1)
+        (λ b l. first-passes enabledTask (s .tasks) x l)
+        k
+
+-- the named task can be completed, with GOOD or with CHECK CONDITION, ACA or not
+pub named-completes :
+    (s : State) (n g : ℕ) (f : Finish) → WellFormed s → isNamed n g (turn s) ≡ true → answer s (Completion n g f) ≡ Done
+unfolding answer ruling ruleFor complete
+named-completes s n g f w e = go (named (s .header .aca) (s .header .run) (s .tasks)) refl e
+  where
+    go :
+        (o : Option Task) → named (s .header .aca) (s .header .run) (s .tasks) ≡ o → isNamed n g (turnOf o) ≡ true
+        → answer s (Completion n g f) ≡ Done
+    go none q z = not-both z refl
+    go (some x) q z =
+        let p = named-first (s .header .aca) (s .header .run) (s .tasks) x q in
+        let o = first-stands (p .0) (s .tasks) x (p .1) in
+        let l : n < 8 = rw (same-parts n g x z .0) at (w .nexus (o .0) x (o .1) (o .2)) in
+        let found = named-found (s .header .aca) (s .header .run) n g (s .tasks) x (says-tested s w .apart) q z in
+        rw (lt-ltb n 8 l, found, named-enabled s x w q)
+
+nothing-none : (o : Option Task) → turnOf o ≡ Nothing → o ≡ none
+nothing-none none e = refl
+nothing-none (some x) e = absurd (let z : _≡_ {A = ℕ} 0 1 = cc in omega arith)
+
+-- without ACA a table with tasks names somebody
+pub somebody-named : (s : State) → WellFormed s → s .header .aca ≡ Clear → (s .tasks ≡ [] → ⊥) → turn s ≡ Nothing → ⊥
+unfolding named
+somebody-named s w c some-task e =
+    go (s .tasks) refl (rw c at (nothing-none (named (s .header .aca) (s .header .run) (s .tasks)) e))
+  where
+    go : (ts : List Task) → s .tasks ≡ ts → named Clear (s .header .run) ts ≡ none → ⊥
+    go [] q z = some-task q
+    go (u ∷ us) q z =
+        cases (λ o. o ≡ none → ⊥) (any enabledHead (u ∷ us) && (ltb (s .header .run) 4 || not (any enabledPlain (u ∷ us))))
+        (λ b k. not-both (and-true (any enabledHead (u ∷ us)) _ b .0) (first-none enabledHead (u ∷ us) k))
+        (λ b k.
+        not-both (oldest-enabled u us (rw q at (clear-settled s w c)))
+        (or-false (enabledTask u) (any enabledTask us) (first-none enabledTask (u ∷ us) k) .0))
+        z
+
+-- an enabled SIMPLE or ORDERED task means that the oldest one is
+pub plain-oldest :
+    (s : State) (u : Task) (younger : List Task) → WellFormed s → s .header .aca ≡ Clear → Stands (s .tasks) [] u younger
+    → any enabledPlain (s .tasks) ≡ true → enabledPlain u ≡ true
+plain-oldest s u younger w c e h =
+    let k : settled [] (u ∷ younger) ≡ true = rw e at (clear-settled s w c) in
+    split (headTask u) (λ y. not-both (rw e at h) (none-plain u younger k y)) (λ y. oldest-plain u younger k y)
+
+-- so "else the oldest enabled task" is no HEAD OF QUEUE task while a SIMPLE or ORDERED one is enabled
+pub else-plain :
+    (s : State) (x : Task) → WellFormed s → s .header .aca ≡ Clear → any enabledPlain (s .tasks) ≡ true
+    → first enabledTask (s .tasks) ≡ some x → enabledPlain x ≡ true
+else-plain s x w c h n = go (s .tasks) refl n
+  where
+    go : (ts : List Task) → s .tasks ≡ ts → first enabledTask ts ≡ some x → enabledPlain x ≡ true
+    go [] e k = none-some x k
+    go (u ∷ us) e k =
+        let p = plain-oldest s u us w c e h in
+        first-cases enabledTask u us x k (λ a b. rw b at p)
+        (λ a b. not-both (oldest-enabled u us (rw e at (clear-settled s w c))) a)
+
+-- a HEAD OF QUEUE task that is named is the oldest enabled one of them
+pub named-head-oldest :
+    (s : State) (x : Task) → WellFormed s → s .header .aca ≡ Clear
+    → named (s .header .aca) (s .header .run) (s .tasks) ≡ some x → headTask x ≡ true → first enabledHead (s .tasks) ≡ some x
+unfolding named
+named-head-oldest s x w c n h = go (s .tasks) (rw c at n) (clear-settled s w c)
+  where
+    go : (ts : List Task) → named Clear (s .header .run) ts ≡ some x → settled [] ts ≡ true → first enabledHead ts ≡ some x
+    go [] k e = none-some x k
+    go (u ∷ us) k e = named-cases (s .header .run) u us x e k (λ a b. a) (λ b y. not-both h (rw b at y))

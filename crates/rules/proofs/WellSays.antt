@@ -266,6 +266,13 @@ says-tested s w =
       states = states-fit (s .header .aca) (s .tasks) (w .without-aca) (w .with-aca);
     }
 
+-- without ACA each task of a well-formed state is enabled exactly if it is eligible, else dormant
+pub clear-settled : (s : State) → WellFormed s → s .header .aca ≡ Clear → settled [] (s .tasks) ≡ true
+clear-settled s w c = go (s .header .aca) c (says-tested s w .states)
+  where
+    go : (a : Allegiance) → a ≡ Clear → statesFit a (s .tasks) ≡ true → settled [] (s .tasks) ≡ true
+    go a p z = rw p at z
+
 -- the test holds exactly if the statement does
 pub well-formed-says : (s : State) → (wellFormed s ≡ true) ↔ WellFormed s
 well-formed-says s =

@@ -4,3 +4,5 @@ pub mod Bits
 pub mod Rulings
 pub mod Rules
 pub mod Well
+pub mod Attentions
+pub mod Refusals

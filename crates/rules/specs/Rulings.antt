@@ -12,6 +12,7 @@
 --   tellLosersFrom i n ls ps := bit 4 for every nexus but n that has a task among ls; ps are the bits of nexus i and above
 --   noted k ls ps        := the pending bits after the notice k, where the tasks ls ended
 --   answerOf r, ruled s r, reportOf s r  := the answer; the state after the ruling; the ended tasks
+--   taskName t, endedName r, sameName k x  := nexus and tag of a task; of an ended one; two such names are the same
 use Prim.Native.Nat.{ℕ, suc}
 use mathlib.Core.Bool.{Bool, true, false, cond, _&&_, not}
 use mathlib.Core.List.{List, [], _∷_, _++_, map}
@@ -19,7 +20,7 @@ use lib.Dec.{eqb}
 use lib.ListN.{length, getD, set, replicate}
 use Rattle.laws.specs.Lists.{any}
 use Rattle.values.specs.Headers.{withCount}
-use Rattle.rules.specs.Types.{Task, Policy, Qerr, EndNone, EndAll, EndNexus, Allegiance, Clear, Faulted, Header, Pending, Turn, Fate, Stays, Ends, Ended, Sweep, Nobody, OneTask, NexusTasks, AcaTask, AllTasks, ClearedBy, FailedTask, Notice, Quiet, Reported, OthersLost, NexusLost, UnitWasReset, HardWasReset, PowerCameOn, Joins, NoTask, NewTask, Change, Answer, Ruling, Keeps, Changes}
+use Rattle.rules.specs.Types.{Task, Policy, Qerr, EndNone, EndAll, EndNexus, Allegiance, Clear, Faulted, Header, Pending, Named, Turn, Fate, Stays, Ends, Ended, Sweep, Nobody, OneTask, NexusTasks, AcaTask, AllTasks, ClearedBy, FailedTask, Notice, Quiet, Reported, OthersLost, NexusLost, UnitWasReset, HardWasReset, PowerCameOn, Joins, NoTask, NewTask, Change, Answer, Ruling, Keeps, Changes}
 use Rattle.rules.specs.Tasks.{nexuses, acaTask, ofNexus, same, restate, named, turnOf}
 use Rattle.rules.specs.Bits.{noPending, without, afterPowerOn, afterHardReset, afterUnitReset, afterNexusLoss, afterCleared}
 
@@ -142,3 +143,13 @@ endedFrom (Ends st ∷ fs) (t ∷ ts) = record { nexus = t .nexus; status = st; 
 -- "the tasks ended by this event in their former age order"
 abbrev pub reportOf : State → Ruling → List Ended
 reportOf s r = endedFrom (fatesOf s r) (s .tasks)
+
+-- Who is meant: no two tasks share nexus and tag.
+abbrev pub taskName : Task → Named
+taskName t = record { nexus = t .nexus; tag = t .tag }
+
+abbrev pub endedName : Ended → Named
+endedName r = record { nexus = r .nexus; tag = r .tag }
+
+abbrev pub sameName : Named → Named → Bool
+sameName k x = eqb (k .nexus) (x .nexus) && eqb (k .tag) (x .tag)
