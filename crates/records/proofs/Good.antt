@@ -17,7 +17,7 @@ use Rattle.rules.proofs.WellKept.{Tested, to-tested}
 use Rattle.records.specs.Numbers.{attributeFits, stateFits, policyFits, pendingFits}
 use Rattle.records.specs.Records.{headerBytes, headerFrom, headerFits, nexusBytes, nexusFits, pendingIn, taskBytes, taskFrom, taskFits, unusedBytes, unusedFits}
 use Rattle.records.specs.Tables.{Bytes, tasksFrom, pendingsFrom, stateOf, nexusRecords, unusedRecords, tableBytes, nexusesFit, tasksFit, unusedFit, goodTable}
-use Rattle.records.proofs.Eight.{record-bytes}
+use Rattle.octets.proofs.Eight.{record-bytes}
 use Rattle.records.proofs.Values.{attribute-good, state-good, flag-good, aca-good, policy-good, pending-good, tag-high-good, tag-low-good}
 
 -- One record -------------------------------------------------------------------------------------------------------------------------------

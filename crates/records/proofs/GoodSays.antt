@@ -18,11 +18,11 @@ use Rattle.rules.specs.Rulings.{State}
 use Rattle.rules.specs.Well.{WellFormed, faultFits, tooHigh}
 use Rattle.rules.proofs.WellKept.{Tested, from-tested}
 use Rattle.rules.proofs.WellSays.{well-formed-says, says-tested}
-use Rattle.rules.specs.Types.{Attribute, Simple, HeadOfQueue, Ordered, Aca, TaskState, Dormant, Enabled, Blocked, Task, Qerr, EndNone, EndAll, EndNexus, Policy, Allegiance, Clear, Faulted, Pending, Header}
-use Rattle.records.specs.Numbers.{flag, attributeNumber, attributeFits, stateNumber, stateFits, acaNumber, policyNumber, policyFits}
+use Rattle.rules.specs.Types.{TaskState, Dormant, Enabled, Blocked, Task, Qerr, EndNone, EndAll, EndNexus, Policy, Allegiance, Clear, Faulted, Pending, Header}
+use Rattle.records.specs.Numbers.{flag, stateNumber, stateFits, acaNumber, policyNumber, policyFits}
 use Rattle.records.specs.Records.{headerBytes, headerFits, nexusFits, taskBytes, taskFits, unusedFits}
 use Rattle.records.specs.Tables.{Bytes, stateOf, nexusRecords, unusedRecords, taskRecords, tableBytes, GoodTable, nexusesFit, tasksFit, unusedFit, goodTable}
-use Rattle.records.proofs.Values.{pending-fits}
+use Rattle.records.proofs.Values.{attribute-fits, pending-fits}
 use Rattle.records.proofs.Written.{state-back-again, length-table, table-header, table-count, table-behind-header, table-tasks, behind-used}
 use Rattle.records.proofs.Good.{table-tested, tested-table, table-good}
 
@@ -52,12 +52,6 @@ unfolding nexusesFit nexusRecords
 nexuses-fit i [] rest = refl
 nexuses-fit i (p ∷ ps) rest =
     rw (pending-fits p, eq-eqb i i refl, add-one) (nexuses-fit (suc i) ps rest)
-
-attribute-fits : (a : Attribute) → attributeFits (attributeNumber a) ≡ true
-attribute-fits Simple = refl
-attribute-fits HeadOfQueue = refl
-attribute-fits Ordered = refl
-attribute-fits Aca = refl
 
 state-fits : (st : TaskState) → stateFits (stateNumber st) ≡ true
 state-fits Dormant = refl

@@ -48,6 +48,12 @@ attribute-back HeadOfQueue = refl
 attribute-back Ordered = refl
 attribute-back Aca = refl
 
+pub attribute-fits : (a : Attribute) → attributeFits (attributeNumber a) ≡ true
+attribute-fits Simple = refl
+attribute-fits HeadOfQueue = refl
+attribute-fits Ordered = refl
+attribute-fits Aca = refl
+
 pub state-back : (st : TaskState) → stateFrom (stateNumber st) ≡ st
 state-back Dormant = refl
 state-back Enabled = refl

@@ -11,7 +11,7 @@ use borrow.Author.Tests.{eqb-true, eq-eqb, ltb-true, lt-ltb}
 use Rattle.laws.proofs.Bools.{and-true, same-truth}
 use Rattle.records.specs.Numbers.{pendingNumber}
 use Rattle.records.specs.Records.{nexusBytes, pendingIn, nexusFits, unusedBytes, unusedFits}
-use Rattle.records.specs.Words.{IsWord}
+use Rattle.octets.specs.Words.{IsWord}
 use Rattle.records.proofs.Values.{pending-fits}
 use Rattle.records.proofs.Good.{nexus-good, unused-good}
 

@@ -2,15 +2,26 @@
 --
 --   eventFrom k n a b g := the event of kind k, nexus n, first a, second b and tag g, or that there is none
 --   eventOf bytes       := the event of a string of bytes, or that there is none
-use Prim.Native.Nat.{ℕ}
+--   eventLine k n a b g := the record of kind k, nexus n, first a, second b and tag g
+--   askedNumber a, finishNumber, functionNumber a, happeningNumber   := "first" of a value, a where the value does not keep it
+--   secondNumber c, functionTag g f, happeningNexus h   := "second" of a COMMAND, tag of a function, nexus of a condition
+--   eventRecord a g v   := the record of the event v, with a for "first" and g for the tag where v does not keep them
+--   eventBytes v        := one record of the event v
+--   Spare a v           := a may stand for "first" in a record of v; asked only where v does not keep it
+--   IsEvent bytes       := the bytes are an event record, in the paper's words
+use Prim.Native.Nat.{ℕ, _+_, _*_, _/_, _%_, _<_}
+use mathlib.Core.Path.{_≡_}
+use mathlib.Core.Logic.{_⊎_}
 use mathlib.Core.Bool.{Bool, true, false, cond, _||_, _&&_}
-use mathlib.Core.List.{List}
+use mathlib.Core.List.{List, [], _∷_}
 use lib.Dec.{eqb, ltb}
 use lib.ListN.{length, getD}
-use Rattle.rules.specs.Types.{Asked, Known, NoneOfFour, Finish, Good, CheckCondition, Function, AbortTask, AbortTaskSet, ClearTaskSet, ClearAca, LogicalUnitReset, Unknown, Happening, PowerOn, HardReset, NexusLoss, Event, Command, Completion, Management, Condition}
+use Rattle.rules.specs.Types.{Asked, Known, NoneOfFour, Entry, Finish, Good, CheckCondition, Function, AbortTask, AbortTaskSet, ClearTaskSet, ClearAca, LogicalUnitReset, Unknown, Happening, PowerOn, HardReset, NexusLoss, Event, Command, Completion, Management, Condition}
 use Rattle.records.specs.Types.{EventRead, Readable, Unreadable}
-use Rattle.records.specs.Numbers.{bitOf, tagFrom, attributeFits, attributeFrom}
+use Rattle.records.specs.Numbers.{flag, bitOf, tagFrom, attributeNumber, attributeFits, attributeFrom}
 use Rattle.records.specs.Records.{marked}
+
+-- Reading ----------------------------------------------------------------------------------------------------------------------------------
 
 abbrev pub readIf : Bool → Event → EventRead
 readIf true e = Readable e
@@ -59,3 +70,92 @@ eventOf e =
     cond (eqb (length e) 8 && marked e 0x56)
     (eventFrom (getD e 2 0) (getD e 3 0) (getD e 4 0) (getD e 5 0) (tagFrom (getD e 6 0) (getD e 7 0)))
     Unreadable
+
+-- Writing ----------------------------------------------------------------------------------------------------------------------------------
+
+-- "event | 54 56 | kind; nexus; first; second; tag"; "Tags are big-endian."
+abbrev pub eventLine : ℕ → ℕ → ℕ → ℕ → ℕ → List ℕ
+eventLine k n a b g = 0x54 ∷ 0x56 ∷ k ∷ n ∷ a ∷ b ∷ g / 256 ∷ g % 256 ∷ []
+
+-- "first is the attribute, any byte": of one that is none of the four the event does not keep which
+abbrev pub askedNumber : ℕ → Asked → ℕ
+askedNumber a (Known t) = attributeNumber t
+askedNumber a NoneOfFour = a
+
+-- "second has bit 0 NACA and bit 1 exempt, other bits 0"
+abbrev pub secondNumber : Entry → ℕ
+secondNumber c = flag (c .naca) + flag (c .exempt) * 2
+
+-- "first is 00h GOOD or 02h CHECK CONDITION"
+abbrev pub finishNumber : Finish → ℕ
+finishNumber Good = 0x00
+finishNumber CheckCondition = 0x02
+
+-- "first is 1 ABORT TASK, 2 ABORT TASK SET, 3 CLEAR TASK SET, 4 CLEAR ACA, 5 LOGICAL UNIT RESET, others unknown"
+abbrev pub functionNumber : ℕ → Function → ℕ
+functionNumber a (AbortTask t) = 1
+functionNumber a AbortTaskSet = 2
+functionNumber a ClearTaskSet = 3
+functionNumber a ClearAca = 4
+functionNumber a LogicalUnitReset = 5
+functionNumber a Unknown = a
+
+-- "tag 0 for functions 2 to 5": of an unknown function the event does not keep the tag
+abbrev pub functionTag : ℕ → Function → ℕ
+functionTag g (AbortTask t) = t
+functionTag g AbortTaskSet = 0
+functionTag g ClearTaskSet = 0
+functionTag g ClearAca = 0
+functionTag g LogicalUnitReset = 0
+functionTag g Unknown = g
+
+-- "first is 1 power on, 2 hard reset, 3 nexus loss"
+abbrev pub happeningNumber : Happening → ℕ
+happeningNumber PowerOn = 1
+happeningNumber HardReset = 2
+happeningNumber (NexusLoss n) = 3
+
+-- "nexus 0 for power on and hard reset"
+abbrev pub happeningNexus : Happening → ℕ
+happeningNexus PowerOn = 0
+happeningNexus HardReset = 0
+happeningNexus (NexusLoss n) = n
+
+-- "1 COMMAND: ..", "2 COMPLETION: .. second 0", "3 MANAGEMENT: .. second 0; ..", "4 CONDITION: .. second 0, tag 0; .."
+abbrev pub eventRecord : ℕ → ℕ → Event → List ℕ
+eventRecord a g (Command c) = eventLine 1 (c .nexus) (askedNumber a (c .asked)) (secondNumber c) (c .tag)
+eventRecord a g (Completion n t f) = eventLine 2 n (finishNumber f) 0 t
+eventRecord a g (Management n f) = eventLine 3 n (functionNumber a f) 0 (functionTag g f)
+eventRecord a g (Condition h) = eventLine 4 (happeningNexus h) (happeningNumber h) 0 0
+
+-- 7 is neither one of the four attributes nor a function that is known
+unfoldable pub eventBytes : Event → List ℕ
+eventBytes v = eventRecord 7 0 v
+
+-- none of the four attributes
+abbrev pub SpareAttribute : ℕ → Asked → Type 0
+SpareAttribute a (Known t) = Unit {0}
+SpareAttribute a NoneOfFour = attributeFits a ≡ false
+
+-- "others unknown"
+abbrev pub SpareFunction : ℕ → Function → Type 0
+SpareFunction a (AbortTask t) = Unit {0}
+SpareFunction a AbortTaskSet = Unit {0}
+SpareFunction a ClearTaskSet = Unit {0}
+SpareFunction a ClearAca = Unit {0}
+SpareFunction a LogicalUnitReset = Unit {0}
+SpareFunction a Unknown = (a ≡ 0) ⊎ (5 < a)
+
+abbrev pub Spare : ℕ → Event → Type 0
+Spare a (Command c) = SpareAttribute a (c .asked)
+Spare a (Completion n t f) = Unit {0}
+Spare a (Management n f) = SpareFunction a f
+Spare a (Condition h) = Unit {0}
+
+-- The record of some event; "Anything else is a bad event, as is a length other than 8."
+pub record IsEvent (e : List ℕ) : Type 0 where
+  pub event : Event
+  pub first : ℕ
+  pub tag : ℕ
+  pub spare : Spare first event
+  pub written : e ≡ eventRecord first tag event

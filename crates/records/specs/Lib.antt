@@ -1,6 +1,5 @@
 pub mod Types
 pub mod Numbers
 pub mod Records
-pub mod Words
 pub mod Events
 pub mod Tables

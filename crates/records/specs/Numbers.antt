@@ -1,24 +1,14 @@
 -- The number of each value, and the value of each number (document 01, "Bytes").
 --
---   attributeNumber, stateNumber, acaNumber, qerrNumber, policyNumber, pendingNumber, flag   := the byte of a value
+--   attributeNumber, stateNumber, acaNumber, qerrNumber, policyNumber, pendingNumber   := the byte of a value
 --   attributeFrom, stateFrom, acaFrom, policyFrom, pendingFrom   := the value of a byte; of one that the tests refuse, any
 --   attributeFits, stateFits, policyFits, pendingFits   := the byte has a value
---   bitOf n d     := the bit of weight d in n
---   tagFrom hi lo := a tag from its two bytes, big-endian
+--   flag, bitOf, tagFrom := passed on from bytes/specs/Bytes
 use Prim.Native.Nat.{ℕ, _+_, _-_, _*_, _/_, _%_}
 use mathlib.Core.Bool.{Bool, true, false, cond, _||_, _&&_, not}
 use lib.Dec.{eqb, ltb}
+pub use Rattle.octets.specs.Bytes.{flag, bitOf, tagFrom}
 use Rattle.rules.specs.Types.{Attribute, Simple, HeadOfQueue, Ordered, Aca, TaskState, Dormant, Enabled, Blocked, Qerr, EndNone, EndAll, EndNexus, Policy, Allegiance, Clear, Faulted, Pending}
-
-abbrev pub flag : Bool → ℕ
-flag true = 1
-flag false = 0
-
-abbrev pub bitOf : ℕ → ℕ → Bool
-bitOf n d = eqb (n / d % 2) 1
-
-abbrev pub tagFrom : ℕ → ℕ → ℕ
-tagFrom hi lo = hi * 256 + lo
 
 -- "Attributes: 0 SIMPLE, 1 HEAD OF QUEUE, 2 ORDERED, 4 ACA."
 abbrev pub attributeNumber : Attribute → ℕ

@@ -1,7 +1,7 @@
 -- The records of document 01, "Bytes": written, read, and tested.
 --
 --   headSize, nexusSize, taskSize  := the widths of the records
---   marked r m            := the record opens with 54h and the mark m
+--   marked                := passed on from bytes/specs/Bytes
 --   headerBytes h, nexusBytes i p, taskBytes t, unusedBytes, endedBytes e   := the record of a value
 --   headerFrom r, pendingIn r, taskFrom r   := the value of a record; of one that the tests refuse, any
 --   headerFits r, nexusFits i r, taskFits r, unusedFits r   := the record is one of its kind, field by field
@@ -10,6 +10,7 @@ use mathlib.Core.Bool.{Bool, _&&_}
 use mathlib.Core.List.{List, [], _∷_}
 use lib.Dec.{eqb, ltb, leb}
 use lib.ListN.{getD}
+pub use Rattle.octets.specs.Bytes.{marked}
 use Rattle.rules.specs.Types.{Task, Header, Pending, Ended}
 use Rattle.records.specs.Numbers.{flag, tagFrom, attributeNumber, attributeFits, attributeFrom, stateNumber, stateFits, stateFrom, acaNumber, acaFrom, policyNumber, policyFits, policyFrom, pendingNumber, pendingFits, pendingFrom}
 
@@ -21,9 +22,6 @@ nexusSize = 8
 
 abbrev pub taskSize : ℕ
 taskSize = 8
-
-abbrev pub marked : List ℕ → ℕ → Bool
-marked r m = eqb (getD r 0 0) 0x54 && eqb (getD r 1 0) m
 
 -- "header | 54 48 | 01; policy; task count 0 to 64; ACA: 0 or 1 + faulted nexus; run 0 to 4; 0"
 abbrev pub headerBytes : Header → List ℕ
