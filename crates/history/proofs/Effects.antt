@@ -68,15 +68,15 @@ aca-leaves-run Clear ts n g run t c w h k = not-both refl c
 aca-leaves-run (Faulted f) ts n g run t c w h k = rw (is-aca (t .attribute) (held-found f [] (same n g) ts t w h k .0))
 
 named-is :
-    (s : State) (n g : ℕ) (t : Task) → Tested s → s .header .aca ≡ Clear → isNamed n g (turn s) ≡ true
-    → first (same n g) (s .tasks) ≡ some t → named (s .header .aca) (s .header .run) (s .tasks) ≡ some t
-named-is s n g t w c e h = go (named (s .header .aca) (s .header .run) (s .tasks)) refl e
+    (s : State) (n g : ℕ) (t : Task) → Tested s → isNamed n g (turn s) ≡ true → first (same n g) (s .tasks) ≡ some t
+    → named (s .header .aca) (s .header .run) (s .tasks) ≡ some t
+named-is s n g t w e h = go (named (s .header .aca) (s .header .run) (s .tasks)) refl e
   where
     go :
         (o : Option Task) → named (s .header .aca) (s .header .run) (s .tasks) ≡ o → isNamed n g (turnOf o) ≡ true
         → named (s .header .aca) (s .header .run) (s .tasks) ≡ some t
     go none q z = not-both z refl
-    go (some x) q z = q ∙ sym (named-found (s .header .run) n g (s .tasks) x (w .apart) (rw c at q) z) ∙ h
+    go (some x) q z = q ∙ sym (named-found (s .header .aca) (s .header .run) n g (s .tasks) x (w .apart) q z) ∙ h
 
 effect-finish :
     (s : State) (n g : ℕ) (f : Finish) (t : Task) → Tested s → first (same n g) (s .tasks) ≡ some t → isEnabled (t .state) ≡ true
@@ -87,11 +87,10 @@ effect-finish s n g f t w h k =
       turn =
           λ e.
           let q = and-true (isClear (s .header .aca)) (isNamed n g (turn s)) (sym (and-on _) ∙ e) in
-          let c = clear-is (s .header .aca) (q .0) in
           record {
-            clear = c;
+            clear = clear-is (s .header .aca) (q .0);
             task = t;
-            is-named = named-is s n g t w c (q .1) h;
+            is-named = named-is s n g t w (q .1) h;
             ends = finish-ends (s .header) f t (isNamed n g (turn s));
             run = finish-run (s .header) f t (isNamed n g (turn s)) ∙ rw (q .1);
           };

@@ -1,11 +1,11 @@
 -- Computed: the waiting bound is met, and well-formed states with tasks, an ACA and run not 0 are reached.
-use Prim.Native.Nat.{ℕ, zero, suc}
+use Prim.Native.Nat.{ℕ, zero, suc, _+_, _*_}
 use mathlib.Core.Bool.{true, false}
 use mathlib.Core.Path.{_≡_, refl}
-use mathlib.Core.List.{List, [], _∷_, _++_}
-use Rattle.rules.specs.Types.{Simple, HeadOfQueue, Ordered, Aca, Dormant, Enabled, Blocked, Event, Completion, Good, CheckCondition, EndNone, Policy, Faulted}
+use mathlib.Core.List.{List, [], _∷_, _++_, map}
+use Rattle.rules.specs.Types.{Simple, HeadOfQueue, Ordered, Aca, Dormant, Enabled, Blocked, Event, Completion, Good, CheckCondition, EndNone, Policy, Faulted, Turn, Nothing, Names}
 use Rattle.rules.specs.Tasks.{named}
-use Rattle.rules.specs.Rulings.{fresh}
+use Rattle.rules.specs.Rulings.{turn, fresh}
 use Rattle.rules.specs.Rules.{newTask, enter, complete, ruleFor, ruling, answer}
 use Rattle.rules.specs.Well.{WellFormed}
 use Rattle.rules.proofs.Accidents.{command}
@@ -17,26 +17,42 @@ policy = record { qerr = EndNone; tas = false }
 
 -- The bound is met -------------------------------------------------------------------------------------------------------------------------
 
--- case K: 0.1 S with no older task, and a new HEAD OF QUEUE task before each turn
-abbrev begun : Past
-begun = after policy (command 0 1 Simple false ∷ [])
+abbrev simples : ℕ → List Event
+simples zero = []
+simples (suc n) = command 0 n Simple false ∷ simples n
 
-abbrev heads : ℕ → List Event
-heads zero = []
-heads (suc n) = command 1 n HeadOfQueue false ∷ Completion 1 n Good ∷ heads n
+-- k SIMPLE tasks, and behind them the one that waits: its serial number is k
+abbrev begun : ℕ → Past
+begun k = after policy (simples (suc k))
 
--- four turns, one less than 5 x (0 + 1), and 0.1 is still there
-pub four-turns : (turns begun (heads 4) ≡ 4) × (inTable (play begun (heads 4)) 0 ≡ 1) × (hasEnded (play begun (heads 4)) 0 ≡ 0)
+abbrev completed : Turn → List Event
+completed Nothing = []
+completed (Names t) = Completion (t .nexus) (t .tag) Good ∷ []
+
+-- a new HEAD OF QUEUE task comes in, then the task whose turn it is completes
+abbrev round : Past → ℕ → List Event
+round h g = command 1 g HeadOfQueue false ∷ completed (turn ((advance h (command 1 g HeadOfQueue false)) .state))
+
+abbrev rounds : ℕ → Past → List Event
+rounds zero h = []
+rounds (suc n) h = round h n ++ rounds n (play h (round h n))
+
+-- the turns among the events es; how often the command with serial number k is in the table behind them, and how often it has ended
+abbrev seen : Past → List Event → ℕ → List ℕ
+seen h es k = turns h es ∷ inTable (play h es) k ∷ hasEnded (play h es) k ∷ []
+
+abbrev seenAfter : ℕ → ℕ → List ℕ
+seenAfter n k = seen (begun k) (rounds n (begun k)) k
+
+abbrev upTo6 : List ℕ
+upTo6 = 0 ∷ 1 ∷ 2 ∷ 3 ∷ 4 ∷ 5 ∷ 6 ∷ []
+
+-- case K with k older tasks: after 5 x (k + 1) - 1 turns the one that waits is still in the table, and the next turn ends it
+pub bound-met :
+    (map (λ k. seenAfter (5 * k + 4) k) upTo6 ≡ map (λ k. (5 * k + 4) ∷ 1 ∷ 0 ∷ []) upTo6)
+    × (map (λ k. seenAfter (5 * (k + 1)) k) upTo6 ≡ map (λ k. 5 * (k + 1) ∷ 0 ∷ 1 ∷ []) upTo6)
 unfolding named fresh newTask enter complete ruleFor ruling answer advance
-four-turns = (refl, refl, refl)
-
-abbrev fifth : List Event
-fifth = heads 4 ++ (command 1 9 HeadOfQueue false ∷ Completion 0 1 Good ∷ [])
-
--- the fifth turn is that of 0.1, though a HEAD OF QUEUE task waits
-pub fifth-turn : (turns begun fifth ≡ 5) × (hasEnded (play begun fifth) 0 ≡ 1) × ((play begun fifth) .state .header .run ≡ 0)
-unfolding named fresh newTask enter complete ruleFor ruling answer advance
-fifth-turn = (refl, refl, refl)
+bound-met = (refl, refl)
 
 -- A witness --------------------------------------------------------------------------------------------------------------------------------
 

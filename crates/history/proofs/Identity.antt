@@ -5,43 +5,18 @@ use mathlib.Core.Bool.{false}
 use mathlib.Core.List.{List, [], _∷_, _++_, map, append-nil, map-append, map-map}
 use native.Mathlib.Omega.{arith}
 use lib.Dec.{leb}
-use lib.ListN.{length, getD, length-append, List·getD-append}
+use lib.ListN.{length, length-append, List·getD-append}
 use lib.Seq.{getD-at, append-snoc}
 use borrow.Author.Tests.{leb-false, lt-leb}
 use Rattle.laws.specs.Lists.{any}
 use Rattle.laws.proofs.Bools.{or-false}
 use Rattle.laws.proofs.Lists.{any-append, any-less}
-use Rattle.rules.specs.Types.{Simple, Dormant, Task, Event, Policy, Fate, Stays, Ends, Ended, Ruling, Keeps, Changes}
-use Rattle.rules.specs.Tasks.{withState}
-use Rattle.rules.specs.Rulings.{fresh, kept, lost, fateOf, newcomers, endedFrom}
+use Rattle.rules.specs.Types.{Task, Event, Policy, Fate, Ruling, Keeps, Changes}
+use Rattle.rules.specs.Rulings.{fresh, kept, lost, fateOf, newcomers, endedFrom, taskName, endedName}
 use Rattle.rules.specs.Rules.{ruling}
-use Rattle.rules.proofs.Fates.{any-kept, any-lost, map-kept, map-lost}
+use Rattle.rules.proofs.Fates.{any-kept, any-lost, map-kept, map-lost, report-names}
 use Rattle.rules.proofs.Distinct.{map-restate}
-use Rattle.history.specs.History.{Past, begin, serialsFrom, advanceBy, advance, play, after}
-
--- a task apart from its state
-abbrev pub unstated : Task → Task
-unstated t = withState t Dormant
-
-abbrev pub nobody : Task
-nobody = record { nexus = 0; attribute = Simple; state = Dormant; naca = false; tag = 0 }
-
--- the task that the command with serial number k came in as
-abbrev pub look : List Task → ℕ → Task
-look roll k = getD roll k nobody
-
-abbrev pub taskId : Task → List ℕ
-taskId t = t .nexus ∷ t .tag ∷ []
-
-abbrev pub endedId : Ended → List ℕ
-endedId r = r .nexus ∷ r .tag ∷ []
-
--- the report has the names of those that ended
-report-ids : (fs : List Fate) (ts : List Task) → map endedId (endedFrom fs ts) ≡ map taskId (lost fs ts)
-report-ids [] ts = refl
-report-ids (f ∷ fs) [] = refl
-report-ids (Stays ∷ fs) (t ∷ ts) = report-ids fs ts
-report-ids (Ends st ∷ fs) (t ∷ ts) = rw (report-ids fs ts)
+use Rattle.history.specs.History.{Past, begin, serialsFrom, advanceBy, advance, play, after, nobody, look, unstated}
 
 -- every serial number is below n
 abbrev pub Below : ℕ → List ℕ → Type 0
@@ -60,7 +35,7 @@ below-serials n (j ∷ js) =
     (below-serials (suc n) js)
 
 module _ {B : Type 0} (f : Task → B) where
-  look-more :
+  pub look-more :
       (roll js : List Task) (ks : List ℕ) → Below (length roll) ks
       → map (λ k. f (look (roll ++ js) k)) ks ≡ map (λ k. f (look roll k)) ks
   look-more roll js [] b = refl
@@ -81,13 +56,13 @@ pub record Known (h : Past) : Type 0 where
   -- the table holds the tasks of the commands with the serial numbers `present`, in their order
   pub table : map unstated (h .state .tasks) ≡ map (λ k. unstated (look (h .roll) k)) (h .present)
   -- the reports name the commands with the serial numbers `ended`, in their order
-  pub reports : map endedId (h .log) ≡ map (λ k. taskId (look (h .roll) k)) (h .ended)
+  pub reports : map endedName (h .log) ≡ map (λ k. taskName (look (h .roll) k)) (h .ended)
 
-known-ids : (h : Past) → Known h → map taskId (h .state .tasks) ≡ map (λ k. taskId (look (h .roll) k)) (h .present)
-known-ids h i =
-    sym (map-map taskId unstated (h .state .tasks))
-    ∙ ap (map taskId) (i .table)
-    ∙ map-map taskId (λ k. unstated (look (h .roll) k)) (h .present)
+known-names : (h : Past) → Known h → map taskName (h .state .tasks) ≡ map (λ k. taskName (look (h .roll) k)) (h .present)
+known-names h i =
+    sym (map-map taskName unstated (h .state .tasks))
+    ∙ ap (map taskName) (i .table)
+    ∙ map-map taskName (λ k. unstated (look (h .roll) k)) (h .present)
 
 table-by :
     (h : Past) (fs : List Fate) (js : List Task) → Known h
@@ -106,19 +81,19 @@ table-by h fs js i =
 
 reports-by :
     (h : Past) (fs : List Fate) (js : List Task) → Known h
-    → map endedId (h .log ++ endedFrom fs (h .state .tasks))
-    ≡ map (λ k. taskId (look (h .roll ++ js) k)) (h .ended ++ lost fs (h .present))
+    → map endedName (h .log ++ endedFrom fs (h .state .tasks))
+    ≡ map (λ k. taskName (look (h .roll ++ js) k)) (h .ended ++ lost fs (h .present))
 reports-by h fs js i =
     rw (
-      map-append endedId (h .log) (endedFrom fs (h .state .tasks)),
+      map-append endedName (h .log) (endedFrom fs (h .state .tasks)),
       i .reports,
-      report-ids fs (h .state .tasks),
-      map-lost taskId fs (h .state .tasks),
-      known-ids h i,
-      map-append (λ k. taskId (look (h .roll ++ js) k)) (h .ended) (lost fs (h .present)),
-      map-lost (λ k. taskId (look (h .roll ++ js) k)) fs (h .present),
-      look-more taskId (h .roll) js (h .present) (i .present-below),
-      look-more taskId (h .roll) js (h .ended) (i .ended-below),
+      report-names fs (h .state .tasks),
+      map-lost taskName fs (h .state .tasks),
+      known-names h i,
+      map-append (λ k. taskName (look (h .roll ++ js) k)) (h .ended) (lost fs (h .present)),
+      map-lost (λ k. taskName (look (h .roll ++ js) k)) fs (h .present),
+      look-more taskName (h .roll) js (h .present) (i .present-below),
+      look-more taskName (h .roll) js (h .ended) (i .ended-below),
     )
 
 more : (h : Past) (js : List Task) (ks : List ℕ) → Below (length (h .roll)) ks → Below (length (h .roll ++ js)) ks
@@ -158,7 +133,7 @@ known-by h (Changes a c) i =
       reports = reports-by h fs js i;
     }
 
-known-play : (h : Past) (es : List Event) → Known h → Known (play h es)
+pub known-play : (h : Past) (es : List Event) → Known h → Known (play h es)
 unfolding advance
 known-play h [] i = i
 known-play h (e ∷ es) i = known-play (advance h e) es (known-by h (ruling (h .state) e) i)

@@ -4,5 +4,6 @@ pub mod Identity
 pub mod Effects
 pub mod Places
 pub mod Wait
+pub mod Listed
 pub mod Lasting
 pub mod Examples

@@ -196,7 +196,7 @@ wait-head (e ∷ es) h k t pre w p n l =
 
 -- From acceptance --------------------------------------------------------------------------------------------------------------------------
 
-roll-one : (h : Past) (e : Event) (t : Task) → accepted (h .state) e ≡ t ∷ [] → length ((advance h e) .roll) ≡ length (h .roll) + 1
+pub roll-one : (h : Past) (e : Event) (t : Task) → accepted (h .state) e ≡ t ∷ [] → length ((advance h e) .roll) ≡ length (h .roll) + 1
 unfolding advance
 roll-one h e t j = rw (j, length-append (h .roll) (t ∷ []))
 

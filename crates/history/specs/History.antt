@@ -5,6 +5,8 @@
 --   advance h e         := one event more
 --   play h es           := the events es, one after the other
 --   after p es          := the events es from a fresh table under the policy p
+--   look roll k         := the task that the command with serial number k came in as
+--   unstated t          := the task apart from its state, which goes on changing
 --   accepted s e        := the task that the event lets in, as a list of one or none
 --   inTable h k, hasEnded h k  := how often the command with serial number k is in the table, and has ended
 --   isTurn s e          := the event is a turn
@@ -13,10 +15,10 @@ use Prim.Native.Nat.{ℕ, suc, _+_}
 use mathlib.Core.Bool.{Bool, true, false, _&&_}
 use mathlib.Core.List.{List, [], _∷_, _++_}
 use lib.Dec.{eqb}
-use lib.ListN.{length}
+use lib.ListN.{length, getD}
 use Rattle.laws.specs.Lists.{one-if, count}
-use Rattle.rules.specs.Types.{Task, Event, Command, Completion, Management, Condition, Policy, Ended, Ruling, Answer, Done, BadTable, BadReport, BadEvent, NexusAboveSeven, NoSuchTask, NotEnabled, EndedAtEntry, Rejected, BadPolicy}
-use Rattle.rules.specs.Tasks.{isNamed}
+use Rattle.rules.specs.Types.{Simple, Dormant, Task, Event, Command, Completion, Management, Condition, Policy, Ended, Ruling, Answer, Done, BadTable, BadReport, BadEvent, NexusAboveSeven, NoSuchTask, NotEnabled, EndedAtEntry, Rejected, BadPolicy}
+use Rattle.rules.specs.Tasks.{withState, isNamed}
 use Rattle.rules.specs.Rulings.{State, isClear, turn, fresh, kept, lost, fatesOf, joinsOf, ruled, reportOf}
 use Rattle.rules.specs.Rules.{ruling, answer}
 
@@ -58,6 +60,15 @@ play h (e ∷ es) = play (advance h e) es
 
 abbrev pub after : Policy → List Event → Past
 after p es = play (begin (fresh p)) es
+
+abbrev pub nobody : Task
+nobody = record { nexus = 0; attribute = Simple; state = Dormant; naca = false; tag = 0 }
+
+abbrev pub look : List Task → ℕ → Task
+look roll k = getD roll k nobody
+
+abbrev pub unstated : Task → Task
+unstated t = withState t Dormant
 
 abbrev pub accepted : State → Event → List Task
 accepted s e = joinsOf (ruling s e)
