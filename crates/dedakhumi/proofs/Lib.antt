@@ -1,6 +1,1 @@
-pub mod Answered
-pub mod Runs
-pub mod Refused
-pub mod Followed
-pub mod Waited
-pub mod Unique
+pub mod Fulfilled

@@ -1,4 +1,1 @@
-pub mod Types
-pub mod Boundary
-pub mod Moves
 pub mod Demands

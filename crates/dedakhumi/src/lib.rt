@@ -1,18 +1,13 @@
 // What the C port driver calls: numbers and byte slices, whatever their lengths and whatever they hold.
-pub mod numbers;
-
-use crate::numbers::Answered;
-use crate::numbers::NamedTurn;
-use crate::numbers::in_numbers;
-use crate::numbers::turn_in_numbers;
-ghost use mathlib.Core.Path.{_≡_};
-ghost use Rattle.operations.specs.Answers.{said};
-ghost use Rattle.operations.specs.Operations.{outcome, named, started};
-ghost use Rattle.dedakhumi.specs.Boundary.{answered, turnFor};
+use numbers::Answered;
+use numbers::NamedTurn;
+use numbers::in_numbers;
+use numbers::turn_in_numbers;
+ghost use Rattle.numbers.specs.Boundary.{StartsAs, AppliesAs, NamesAs};
 
 #[no_mangle]
 pub extern "C" fn dedakhumi_start(table: &mut [u8], policy: u8) -> u8
-    ensures { λ a. ⌜ (a ≡ (said ((started (now (table .entry)) policy) .answer)) .number) × (now (table .exit) ≡ (started (now (table .entry)) policy) .table) ⌝ }
+    ensures { λ a. ⌜ StartsAs (now (table .entry)) policy a (now (table .exit)) ⌝ }
 {
     let a = table::start::start(table, policy);
     in_numbers(a, 0).answer
@@ -20,7 +15,7 @@ pub extern "C" fn dedakhumi_start(table: &mut [u8], policy: u8) -> u8
 
 #[no_mangle]
 pub extern "C" fn dedakhumi_apply(table: &mut [u8], report: &mut [u8], event: &[u8]) -> Answered
-    ensures { λ a. ⌜ (a ≡ answered (outcome (now (table .entry)) (now (report .entry)) (now (event .entry)))) × (now (table .exit) ≡ (outcome (now (table .entry)) (now (report .entry)) (now (event .entry))) .table) × (now (report .exit) ≡ (outcome (now (table .entry)) (now (report .entry)) (now (event .entry))) .report) ⌝ }
+    ensures { λ a. ⌜ AppliesAs (now (table .entry)) (now (report .entry)) (now (event .entry)) a (now (table .exit)) (now (report .exit)) ⌝ }
 {
     let a = table::apply::apply(table, report, event);
     let answer = a.answer;
@@ -29,7 +24,7 @@ pub extern "C" fn dedakhumi_apply(table: &mut [u8], report: &mut [u8], event: &[
 
 #[no_mangle]
 pub extern "C" fn dedakhumi_name(table: &[u8]) -> NamedTurn
-    ensures { λ r. ⌜ r ≡ turnFor (named (now (table .entry))) ⌝ }
+    ensures { λ u. ⌜ NamesAs (now (table .entry)) u ⌝ }
 {
     let n = table::name::name(table);
     let answer = n.answer;

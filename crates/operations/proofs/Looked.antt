@@ -1,14 +1,14 @@
 -- The looks that come before an event is ruled on.
-use Prim.Native.Nat.{ℕ, _≤_}
+use Prim.Native.Nat.{ℕ, _≤_, _<_}
 use mathlib.Core.Bool.{true, false, cond}
 use mathlib.Core.Path.{_≡_, refl, ap, _∙_}
 use mathlib.Core.List.{List, []}
 use lib.ListN.{length, replicate}
 use lib.Dec.{eqb, ltb}
-use borrow.Author.Tests.{eqb-true, eqb-false, eq-eqb, ne-eqb, ltb-false}
-use Rattle.laws.proofs.Bools.{cases, not-both}
+use borrow.Author.Tests.{eqb-true, eqb-false, eq-eqb, ne-eqb, ltb-true, ltb-false}
+use Rattle.laws.proofs.Bools.{cases, split, not-both}
 use Rattle.rules.specs.Rulings.{State}
-use Rattle.rules.specs.Rules.{nexusOf, ruleFor, ruling}
+use Rattle.rules.specs.Rules.{nexusOf, ruling}
 use Rattle.rules.proofs.Cases.{ruling-high}
 use Rattle.records.specs.Tables.{stateOf, GoodTable, reportBytes, goodTable}
 use Rattle.records.specs.Events.{eventOf}
@@ -60,9 +60,10 @@ pub outcome-cases : (P : Outcome → Type 0) (t r e : List ℕ)
     → (GoodTable t → (length r ≡ 512 → ⊥) → P (refused BadReport t r))
     → (GoodTable t → length r ≡ 512 → eventOf e ≡ Unreadable → P (refused BadEvent t r))
     → (GoodTable t → length r ≡ 512 → (v : Event) → eventOf e ≡ Readable v → 8 ≤ nexusOf v → P (refused NexusAboveSeven t r))
-    → ((v : Event) → P (carried t r (stateOf t) (ruleFor (stateOf t) v)))
+    → (GoodTable t → length r ≡ 512 → (v : Event) → eventOf e ≡ Readable v → nexusOf v < 8
+    → P (carried t r (stateOf t) (ruling (stateOf t) v)))
     → P (outcome t r e)
-unfolding outcome ruling
+unfolding outcome
 outcome-cases P t r e table report event nexus rule =
     cases P (goodTable t)
     (λ g.
@@ -73,5 +74,5 @@ outcome-cases P t r e table report event nexus rule =
     go : GoodTable t → length r ≡ 512 → (o : EventRead) → eventOf e ≡ o → P (onEvent t r o)
     go w l Unreadable q = event w l q
     go w l (Readable v) q =
-        cases (λ x. P (carried t r (stateOf t) x)) (ltb (nexusOf v) 8) (λ h. rule v)
-        (λ h. nexus w l v q (ltb-false (nexusOf v) 8 h))
+        split (ltb (nexusOf v) 8) (λ h. rule w l v q (ltb-true (nexusOf v) 8 h))
+        (λ h. let n = ltb-false (nexusOf v) 8 h in rw (ruling-high (stateOf t) v n) (nexus w l v q n))

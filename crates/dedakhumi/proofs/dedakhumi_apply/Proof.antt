@@ -12,4 +12,8 @@ dedakhumi-apply-spec =
     (λ c. search needs)
     (λ c.
     let applied = c .before .before .before .before .before .apply .ensures in
-    (rw (applied .answer, applied .ended) at (c .in-numbers .ensures), applied .table, applied .report)))
+    record {
+      answer = rw (applied .answer, applied .ended) at (c .in-numbers .ensures);
+      table = applied .table;
+      report = applied .report;
+    }))

@@ -8,4 +8,4 @@ dedakhumi-name-spec =
     (tie.spec
     (λ c κs. search needs)
     (λ c κs. search needs)
-    (λ c. rw (c .before .name .ensures) at (c .turn-in-numbers .ensures)))
+    (λ c. record { turn = rw (c .before .name .ensures) at (c .turn-in-numbers .ensures) }))

@@ -11,4 +11,4 @@ dedakhumi-start-spec =
     (λ c. search needs)
     (λ c.
     let started = c .before .before .before .start .ensures in
-    (rw (c .in-numbers .ensures, started .answer), started .table)))
+    record { answer = rw (c .in-numbers .ensures, started .answer); table = started .table }))

@@ -1,0 +1,14 @@
+pub mod Answered
+pub mod Runs
+pub mod Reading
+pub mod Counted
+pub mod Entered
+pub mod Told
+pub mod Fielded
+pub mod Refused
+pub mod Followed
+pub mod Waited
+pub mod Unique
+pub mod Witness
+pub mod Overtaking
+pub mod Stepped

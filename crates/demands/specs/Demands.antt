@@ -1,0 +1,141 @@
+-- The mission's three demands, over the bytes that the operations are lent. Document 01 stands beside this file; Moves has the words for runs, Seen
+-- those for what a driver sees, history/specs/History those for serial numbers, rules/specs/Refusals those for the answers 5 to 8.
+--
+--   Demand1             := every input has an answer; each number exactly where document 01 gives it; what is refused changes nothing
+--   Demand2             := over any calls on a started table, answers, tables, reports and namings are those of the rules at every moment, and each
+--                          accepted command is in the table or has ended, once, by serial number and as a driver's ledger shows it
+--   turnsToWait k       := by how many turns a task has ended that was accepted with k older ones
+--   Demand3             := a task accepted with an attribute other than ACA, with k older tasks then, has ended by the 5 x (k + 1)th turn
+use Prim.Native.Nat.{ℕ, _+_, _*_, _≤_, _<_}
+use mathlib.Core.Path.{_≡_}
+use mathlib.Core.Bool.{true, false, cond}
+use mathlib.Core.List.{List, [], _∷_, _++_, map}
+use mathlib.Core.Logic.{_↔_, _⊎_}
+use mathlib.Core.Option.{some}
+use lib.ListN.{length, getD, replicate}
+use Rattle.rules.specs.Rulings.{turn, taskName}
+use Rattle.rules.specs.Rules.{nexusOf}
+use Rattle.rules.specs.Refusals.{Absent, Waits, EndsAtEntry, EntryStatus, RejectedBy}
+use Rattle.records.specs.Numbers.{policyFits, policyFrom}
+use Rattle.records.specs.Tables.{Bytes, countIn, GoodTable, stateOf, tableBytes}
+use Rattle.records.specs.Events.{eventOf, IsEvent}
+use Rattle.history.specs.History.{after, look, unstated, inTable, hasEnded}
+use Rattle.operations.specs.Operations.{Outcome, outcome, naming, named, started}
+use Rattle.rules.specs.Types.{Event, Policy, Done}
+use Rattle.records.specs.declared.events.EventRead.{the-variants.Readable, the-variants.Unreadable}
+use Rattle.numbers.specs.Boundary.{answered, turnFor, startNumber}
+use Rattle.demands.specs.Moves.{Move, applied, tableBy, eventsIn, taskIn, opened, expected}
+use Rattle.demands.specs.Seen.{eventName, presentIn, isAccepted, endedIn, listedBy, isListed, turnsBy, ledgerBy}
+
+-- 1 ----------------------------------------------------------------------------------------------------------------------------------------
+
+abbrev pub number : List ℕ → List ℕ → List ℕ → ℕ
+number t r e = (answered (outcome t r e)) .answer
+
+abbrev pub nameNumber : List ℕ → ℕ
+nameNumber t = (turnFor (named t)) .answer
+
+-- none of 1 to 4 applies, and the event is v
+pub record Reaches (t r e : List ℕ) (v : Event) : Type 0 where
+  pub table : GoodTable t
+  pub report : length r ≡ 512
+  pub event : eventOf e ≡ Readable v
+  pub nexus : nexusOf v < 8
+
+-- "Status is 0 except under 7, and sense (key, code, qualifier) is 0 except under 7 with status 02h. The ended count is the number of ended records in
+-- the report, and 0 under every answer but 0 and 7."
+pub record Fields (o : Outcome) : Type 0 where
+  pub no-status : ((answered o) .answer ≡ 7 → ⊥) → (answered o) .status ≡ 0
+  pub status : (answered o) .answer ≡ 7 → EntryStatus ((answered o) .status)
+  pub no-sense : ((answered o) .status ≡ 0x02 → ⊥) → ((answered o) .key ≡ 0) × ((answered o) .code ≡ 0) × ((answered o) .qualifier ≡ 0)
+  pub ended : ((answered o) .answer ≡ 0) ⊎ ((answered o) .answer ≡ 7) → (answered o) .ended ≡ endedIn (o .report)
+  pub none-ended : ((answered o) .answer ≡ 0 → ⊥) → ((answered o) .answer ≡ 7 → ⊥) → (answered o) .ended ≡ 0
+
+-- The mission's 1: every event gets an answer, whatever its bytes and whatever the table holds; a bad table, policy, report buffer, event or nexus is
+-- refused by the number in document 01 with both lent buffers unchanged, and no caller is trusted to have looked first. The last is met by the
+-- functions of src/lib.rt having no `requires`: what is said here of outcome, started and named for all lists they promise for all buffers.
+pub record Demand1 : Type 0 where
+  -- apply answers one of 0 to 8: each of 1 to 8 exactly where it applies, and so 0 exactly where none of them does
+  pub some-answer : (t r e : List ℕ) → number t r e ≤ 8
+  pub bad-table : (t r e : List ℕ) → (number t r e ≡ 1) ↔ (GoodTable t → ⊥)
+  pub bad-report : (t r e : List ℕ) → (number t r e ≡ 2) ↔ (GoodTable t × (length r ≡ 512 → ⊥))
+  pub bad-event : (t r e : List ℕ) → (number t r e ≡ 3) ↔ (GoodTable t × (length r ≡ 512) × (eventOf e ≡ Unreadable))
+  pub no-event : (e : List ℕ) → Bytes e → (eventOf e ≡ Unreadable) ↔ (IsEvent e → ⊥)
+  pub bad-nexus : (t r e : List ℕ)
+      → (number t r e ≡ 4) ↔ (GoodTable t × (length r ≡ 512) × ((v : Event) × (eventOf e ≡ Readable v) × (8 ≤ nexusOf v)))
+  pub no-such-task : (t r e : List ℕ) → (number t r e ≡ 5) ↔ ((v : Event) × Reaches t r e v × Absent (stateOf t) v)
+  pub not-enabled : (t r e : List ℕ) → (number t r e ≡ 6) ↔ ((v : Event) × Reaches t r e v × Waits (stateOf t) v)
+  pub at-entry : (t r e : List ℕ) → (number t r e ≡ 7) ↔ ((v : Event) × Reaches t r e v × EndsAtEntry (stateOf t) v)
+  pub rejected : (t r e : List ℕ) → (number t r e ≡ 8) ↔ ((v : Event) × Reaches t r e v × RejectedBy (stateOf t) v)
+  -- the buffers: under 1 to 6 both are the same; under 8 the table is, and the report is zeros
+  pub unchanged : (t r e : List ℕ) → 1 ≤ number t r e → number t r e ≤ 6
+      → ((outcome t r e) .table ≡ t) × ((outcome t r e) .report ≡ r)
+  pub emptied : (t r e : List ℕ) → number t r e ≡ 8
+      → ((outcome t r e) .table ≡ t) × ((outcome t r e) .report ≡ replicate 512 0)
+  pub fields : (t r e : List ℕ) → Fields (outcome t r e)
+  -- start looks at length and policy
+  pub start-length : (t : List ℕ) (p : ℕ) → (startNumber t p ≡ 1) ↔ (length t ≡ 584 → ⊥)
+  pub start-policy : (t : List ℕ) (p : ℕ) → (startNumber t p ≡ 9) ↔ ((length t ≡ 584) × (policyFits p ≡ false))
+  pub start-done : (t : List ℕ) (p : ℕ) → (startNumber t p ≡ 0) ↔ ((length t ≡ 584) × (policyFits p ≡ true))
+  pub start-unchanged : (t : List ℕ) (p : ℕ) → 1 ≤ startNumber t p → (started t p) .table ≡ t
+  -- name looks at the table; nexus and tag are 0 where it names nothing, and so under 1
+  pub name-table : (t : List ℕ) → (nameNumber t ≡ 1) ↔ (GoodTable t → ⊥)
+  pub name-done : (t : List ℕ) → (nameNumber t ≡ 0) ↔ GoodTable t
+  pub name-found : (t : List ℕ) → nameNumber t ≡ 1 → (turnFor (named t)) .found ≡ false
+  pub name-nothing : (t : List ℕ) → (turnFor (named t)) .found ≡ false → ((turnFor (named t)) .nexus ≡ 0) × ((turnFor (named t)) .tag ≡ 0)
+
+-- 2 ----------------------------------------------------------------------------------------------------------------------------------------
+
+-- The mission's 2: over any sequence of events from a fresh table the states, statuses, unit attentions and aborts are those of the SAM-4 rules as
+-- document 01 fixes them; ACA and run in the table, and the answer of the naming operation, are at every moment those of its rules, the turn rule
+-- included; each accepted command is at every moment either in the table or ended, and it ends once. The calls ms are any calls at all, also those
+-- that are refused: with a report buffer of another length, an event that cannot be read, a nexus above 7.
+pub record Demand2 : Type 0 where
+  -- a fresh table is what start leaves where it answers 0, whatever stood there before
+  pub begins : (t : List ℕ) (b : ℕ) → startNumber t b ≡ 0 → (started t b) .table ≡ opened (policyFrom b)
+  -- after any calls ms, and at the next call m
+  pub table : (p : Policy) (ms : List Move) → tableBy (opened p) ms ≡ tableBytes ((after p (eventsIn ms)) .state)
+  pub names : (p : Policy) (ms : List Move)
+      → named (tableBy (opened p) ms) ≡ naming Done (turn ((after p (eventsIn ms)) .state))
+  pub answers : (p : Policy) (ms : List Move) (m : Move)
+      → applied (tableBy (opened p) ms) m ≡ expected ((after p (eventsIn ms)) .state) m
+  pub well : (p : Policy) (ms : List Move) → GoodTable (tableBy (opened p) ms)
+  -- by serial number: the commands accepted are the COMMANDs that apply answered 0
+  pub lets-in : (p : Policy) (ms : List Move) (m : Move)
+      → (after p (eventsIn (ms ++ (m ∷ [])))) .roll
+      ≡ (after p (eventsIn ms)) .roll ++ cond (isAccepted (tableBy (opened p) ms) m) (taskIn (eventOf (m .event))) []
+  -- each is in the table and has not ended, or is not in the table and has ended once; and it never comes back
+  pub once : (p : Policy) (ms : List Move) (k : ℕ) → k < length ((after p (eventsIn ms)) .roll)
+      → ((inTable (after p (eventsIn ms)) k ≡ 1) × (hasEnded (after p (eventsIn ms)) k ≡ 0))
+      ⊎ ((inTable (after p (eventsIn ms)) k ≡ 0) × (hasEnded (after p (eventsIn ms)) k ≡ 1))
+  pub never-back : (p : Policy) (ms later : List Move) → (more : List ℕ)
+      × ((after p (eventsIn (ms ++ later))) .ended ≡ (after p (eventsIn ms)) .ended ++ more)
+  -- the tasks in the table's bytes are those of the commands present, and the records in all reports' bytes name those that ended, in order
+  pub in-table : (p : Policy) (ms : List Move)
+      → map unstated ((stateOf (tableBy (opened p) ms)) .tasks)
+      ≡ map (λ k. unstated (look ((after p (eventsIn ms)) .roll) k)) ((after p (eventsIn ms)) .present)
+  pub reported : (p : Policy) (ms : List Move)
+      → listedBy (opened p) ms ≡ map (λ k. taskName (look ((after p (eventsIn ms)) .roll) k)) ((after p (eventsIn ms)) .ended)
+  -- as a port driver sees it, by bytes and answers alone: a ledger that gains the command of each COMMAND answered 0 and drops what each report
+  -- lists holds at every moment just the table's tasks, oldest first, and no drop finds nobody
+  pub ledger : (t : List ℕ) (b : ℕ) (ms : List Move) → startNumber t b ≡ 0
+      → ledgerBy ((started t b) .table) ms [] ≡ some (presentIn (tableBy ((started t b) .table) ms))
+
+-- 3 ----------------------------------------------------------------------------------------------------------------------------------------
+
+-- "the 5 x (k + 1)th turn"
+abbrev pub turnsToWait : ℕ → ℕ
+turnsToWait k = 5 * (k + 1)
+
+-- The mission's 3: take any task accepted with an attribute other than ACA, with k older tasks not ended then. A turn is an accepted completion of the
+-- task that the turn rule names, with no ACA in effect before it. Whatever other events come between, HEAD OF QUEUE arrivals and refused calls
+-- included, the task has ended by the time of the 5 x (k + 1)th turn after it was accepted: they can't stretch that.
+-- By bytes and answers alone: the call m is a COMMAND answered 0 whose attribute byte is not 4; k is the task count in the table's header before it;
+-- the end is that a report of the calls `later` lists its nexus and tag. The first one that does is its own end, since the table holds it
+-- until then (demand 2, ledger) and takes no second task of that nexus and tag.
+abbrev pub Demand3 : Type 0
+Demand3 =
+    (t : List ℕ) (b : ℕ) (ms : List Move) (m : Move) (later : List Move) → startNumber t b ≡ 0
+    → isAccepted (tableBy ((started t b) .table) ms) m ≡ true → (getD (m .event) 4 0 ≡ 4 → ⊥)
+    → turnsToWait (countIn (tableBy ((started t b) .table) ms)) ≤ turnsBy (tableBy ((started t b) .table) (ms ++ (m ∷ []))) later
+    → isListed (eventName (m .event)) (listedBy (tableBy ((started t b) .table) (ms ++ (m ∷ []))) later) ≡ true

@@ -1,0 +1,3 @@
+pub mod Moves
+pub mod Seen
+pub mod Demands

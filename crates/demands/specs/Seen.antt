@@ -1,0 +1,128 @@
+-- What a port driver sees of a run: bytes, and the answers of the three functions. Nothing here asks the rules.
+--
+--   told t m             := what apply answers to the call m on the table t
+--   kindOf e, eventName e  := the kind of an event record; its nexus and tag
+--   recordName r, namesFrom n l  := nexus and tag of a task or ended record; those of the first n such records of l
+--   taskAt t i, attributeAt t i  := the task record at place i of the table t, the oldest at 0; its attribute byte
+--   pendingAt t i        := the pending byte of nexus i in the table t
+--   presentIn t          := nexus and tag of each task of the table t, oldest first
+--   isAccepted t m       := the call brings a COMMAND, and apply answers 0
+--   listed t m, listedBy t ms  := nexus and tag of each ended record that the call reports, that the calls ms report
+--   endedFrom n l, endedIn r  := how many of the first n records of l are ended records; how many the report r holds
+--   isListed k l         := the name k is among l
+--   isTurnBy t m, turnsBy t ms := the call is a turn; how many of the calls ms are
+--   isNamedBy u k        := name answered u, which names k
+--   found o f            := f of what o holds; none where it holds nothing
+--   gained t m           := the command that the call adds to the ledger, as a list of one or none
+--   strike k l, strikeAll ks l := l without the first of the name k, without those of the names ks; none where one of them is not there
+--   ledgerBy t ms l      := the driver's ledger, l before the calls ms, after them; none where a report lists somebody who is not in it
+use Prim.Native.Nat.{ℕ, zero, suc, _+_, _*_}
+use mathlib.Core.Bool.{Bool, cond, _&&_}
+use mathlib.Core.List.{List, [], _∷_, _++_}
+use mathlib.Core.Option.{Option, none, some}
+use lib.Dec.{eqb}
+use lib.ListN.{getD, take, drop}
+use Rattle.laws.specs.Lists.{one-if, any}
+use Rattle.laws.specs.Records.{recordAt}
+use Rattle.rules.specs.Types.{Named}
+use Rattle.rules.specs.Tasks.{places}
+use Rattle.rules.specs.Rulings.{sameName}
+use Rattle.records.specs.Numbers.{tagFrom}
+use Rattle.records.specs.Records.{nexusSize, taskSize, marked}
+use Rattle.records.specs.Tables.{nexusesAt, countIn, tasksAt}
+use Rattle.operations.specs.Operations.{named}
+use Rattle.numbers.specs.declared.Answered.{Answered}
+use Rattle.numbers.specs.declared.NamedTurn.{NamedTurn}
+use Rattle.numbers.specs.Boundary.{answered, turnFor}
+use Rattle.demands.specs.Moves.{Move, applied}
+
+abbrev pub told : List ℕ → Move → Answered
+told t m = answered (applied t m)
+
+-- Names ------------------------------------------------------------------------------------------------------------------------------------
+
+-- "event | 54 56 | kind; nexus; first; second; tag"
+abbrev pub kindOf : List ℕ → ℕ
+kindOf e = getD e 2 0
+
+abbrev pub eventName : List ℕ → Named
+eventName e = record { nexus = getD e 3 0; tag = tagFrom (getD e 6 0) (getD e 7 0) }
+
+-- "task | 54 54 | nexus; attribute; state; control; tag", "ended | 54 45 | nexus; status; 0 0; tag": at the same places
+abbrev pub recordName : List ℕ → Named
+recordName r = record { nexus = getD r 2 0; tag = tagFrom (getD r 6 0) (getD r 7 0) }
+
+abbrev pub namesFrom : ℕ → List ℕ → List Named
+namesFrom zero l = []
+namesFrom (suc n) l = recordName (take taskSize l) ∷ namesFrom n (drop taskSize l)
+
+abbrev pub taskAt : List ℕ → ℕ → List ℕ
+taskAt t i = recordAt taskSize t (tasksAt + taskSize * i)
+
+abbrev pub attributeAt : List ℕ → ℕ → ℕ
+attributeAt t i = getD (taskAt t i) 3 0
+
+abbrev pub pendingAt : List ℕ → ℕ → ℕ
+pendingAt t i = getD (recordAt nexusSize t (nexusesAt + nexusSize * i)) 3 0
+
+-- "Used task records come first, oldest first."
+abbrev pub presentIn : List ℕ → List Named
+presentIn t = namesFrom (countIn t) (drop tasksAt t)
+
+abbrev pub isListed : Named → List Named → Bool
+isListed k l = any (sameName k) l
+
+-- Accepted, ended, turns -------------------------------------------------------------------------------------------------------------------
+
+abbrev pub isAccepted : List ℕ → Move → Bool
+isAccepted t m = eqb (kindOf (m .event)) 1 && eqb ((told t m) .answer) 0
+
+-- "The ended count is the number of ended records in the report"
+abbrev pub listed : List ℕ → Move → List Named
+listed t m = namesFrom ((told t m) .ended) ((applied t m) .report)
+
+abbrev pub endedFrom : ℕ → List ℕ → ℕ
+endedFrom zero l = 0
+endedFrom (suc n) l = one-if (marked (take taskSize l) 0x45) + endedFrom n (drop taskSize l)
+
+abbrev pub endedIn : List ℕ → ℕ
+endedIn r = endedFrom places r
+
+abbrev pub listedBy : List ℕ → List Move → List Named
+listedBy t [] = []
+listedBy t (m ∷ ms) = listed t m ++ listedBy ((applied t m) .table) ms
+
+abbrev pub isNamedBy : NamedTurn → Named → Bool
+isNamedBy u k = u .found && sameName (record { nexus = u .nexus; tag = u .tag }) k
+
+-- "A turn is an accepted completion of the task that the turn rule names, with no ACA in effect before it": on the table before the call the ACA
+-- byte is 0 and name names that task, and apply answers 0
+unfoldable pub isTurnBy : List ℕ → Move → Bool
+isTurnBy t m =
+    eqb (getD t 5 0) 0 && eqb (kindOf (m .event)) 2 && isNamedBy (turnFor (named t)) (eventName (m .event)) && eqb ((told t m) .answer) 0
+
+abbrev pub turnsBy : List ℕ → List Move → ℕ
+turnsBy t [] = 0
+turnsBy t (m ∷ ms) = one-if (isTurnBy t m) + turnsBy ((applied t m) .table) ms
+
+-- The ledger -------------------------------------------------------------------------------------------------------------------------------
+
+abbrev pub found : {A B : Type 0} → Option A → (A → Option B) → Option B
+found none f = none
+found (some a) f = f a
+
+abbrev pub strike : Named → List Named → Option (List Named)
+strike k [] = none
+strike k (x ∷ l) = cond (sameName k x) (some l) (found (strike k l) (λ r. some (x ∷ r)))
+
+abbrev pub strikeAll : List Named → List Named → Option (List Named)
+strikeAll [] l = some l
+strikeAll (k ∷ ks) l = found (strike k l) (strikeAll ks)
+
+-- a call drops what its report lists, and adds its command where that is accepted, as the youngest
+abbrev pub gained : List ℕ → Move → List Named
+gained t m = cond (isAccepted t m) (eventName (m .event) ∷ []) []
+
+abbrev pub ledgerBy : List ℕ → List Move → List Named → Option (List Named)
+ledgerBy t [] l = some l
+ledgerBy t (m ∷ ms) l = found (strikeAll (listed t m) l) (λ r. ledgerBy ((applied t m) .table) ms (r ++ gained t m))

@@ -1,0 +1,1 @@
+// The mission's three demands over bytes: specs/ and proofs/.
