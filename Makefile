@@ -80,8 +80,9 @@ $(eval $(call program,compare,tests/compare/*.c second/*.c,tests/compare/*.h sec
 $(eval $(call program,pages,tests/pages/*.c,tests/pages/*.h,))
 $(eval $(call program,outside,tests/outside/*.c,tests/outside/*.h,))
 
-# One after the other, the quick ones first. The last line is that of `rt ci`: N passed, 0 failed.
-TESTS := need header promises install driver outside pages cases compare
+# One after the other, the quick ones first. The last line is that of `rt ci`: N passed, 0 failed. It waits for all jobs of a batch, so that with
+# batches of four two cores are seldom idle.
+TESTS := need header promises install driver outside pages cases compare wrong
 .PHONY: test
 test:
 	@for test in $(TESTS); do \
@@ -89,7 +90,7 @@ test:
 		$(MAKE) --no-print-directory "test-$$test" || { echo "make test: stopped, since the test '$$test' failed" >&2; exit 1; }; \
 	done
 	@mkdir -p build
-	@rt ci 2>&1 | tee build/ci.log
+	@RT_JOBS=$${RT_JOBS:-4} rt ci 2>&1 | tee build/ci.log
 
 .PHONY: $(TESTS:%=test-%)
 test-need:
@@ -136,3 +137,7 @@ test-cases: build/replay
 
 test-promises: tests/promises
 	tests/promises
+
+# Wrong programs that are dear to try; `rt ci` tries the others.
+test-wrong: $(ARCHIVE) build/player build/replay
+	tests/wrong/try
