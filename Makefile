@@ -82,7 +82,7 @@ $(eval $(call program,outside,tests/outside/*.c,tests/outside/*.h,))
 
 # One after the other, the quick ones first. The last line is that of `rt ci`: N passed, 0 failed. It waits for all jobs of a batch, so that with
 # batches of four two cores are seldom idle.
-TESTS := need header promises install driver outside pages cases compare wrong
+TESTS := need header promises install driver outside pages cases compare
 .PHONY: test
 test:
 	@for test in $(TESTS); do \
@@ -137,7 +137,3 @@ test-cases: build/replay
 
 test-promises: tests/promises
 	tests/promises
-
-# Wrong programs that are dear to try; `rt ci` tries the others.
-test-wrong: $(ARCHIVE) build/player build/replay
-	tests/wrong/try
