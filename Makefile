@@ -42,10 +42,10 @@ $(ARCHIVE): $(CRATES)
 	@mkdir -p build
 	cp target/staticlib/libdedakhumi.a $@
 
-build/player build/replay: build/%: $(CRATES)
-	rt check $*
+build/player: $(CRATES)
+	rt check player
 	@mkdir -p build
-	cp target/bin/$* $@
+	cp target/bin/player $@
 
 build/dedakhumi.h: $(HEADER)
 	@mkdir -p build
@@ -79,9 +79,9 @@ $(eval $(call program,night,driver/*.c,driver/*.h,))
 $(eval $(call program,compare,tests/compare/*.c second/*.c,tests/compare/*.h second/*.h,-Isecond))
 $(eval $(call program,pages,tests/pages/*.c,tests/pages/*.h,))
 $(eval $(call program,outside,tests/outside/*.c,tests/outside/*.h,))
+$(eval $(call program,replay,tests/cases/*.c,tests/cases/*.h,))
 
-# One after the other, the quick ones first. The last line is that of `rt ci`: N passed, 0 failed. It waits for all jobs of a batch, so that with
-# batches of four two cores are seldom idle.
+# One after the other, the quick ones first. The last line is that of `rt ci`: N passed, 0 failed.
 TESTS := need header promises install driver outside pages cases compare
 .PHONY: test
 test:
@@ -129,11 +129,9 @@ test-outside: build/outside $(SANITIZED:%=build/outside%) tests/outside/*.txt
 	$(SANITIZED:%=build/outside% $(filter %.txt,$^))
 	$(call faults,outside)
 
-# That what the replay reads and has to write is what the cases say, and what it does with input that they don't have. That it writes it,
-# `rt ci` tries.
-test-cases: build/replay
-	tests/cases/make-replay --check
-	tests/cases/try-frames $(RUN) $(abspath $<)
+# The cases over the archive, and what the program that plays them does with input that they don't have.
+test-cases: build/replay $(SANITIZED:%=build/replay%)
+	@for replay in $(abspath $^); do tests/cases/run $(RUN) "$$replay"; tests/cases/try-frames $(RUN) "$$replay"; done
 
 test-promises: tests/promises
 	tests/promises

@@ -1,4 +1,4 @@
-"""A case as crates/replay takes it in and as it has to write it: frames, and the lines that show all that is seen."""
+"""A case as the replay takes it in and as it has to write it: frames, and the lines that show all that is seen."""
 from play import SAME, Apply, Lend, Name, Start
 
 
