@@ -44,7 +44,7 @@ fn keep(t: &mut [u8], n: usize, w: Sweep) -> usize
     k
 }
 
-fn vacate(t: &mut [u8], from: usize, n: usize)
+pub fn vacate(t: &mut [u8], from: usize, n: usize)
     requires { ⌜ (length (now t) ≡ 584) × (n ≤ 64) × (from ≤ n) ⌝ }
     ensures { λ _. ⌜ now (t .exit) ≡ vacatedBytes from (n - from) (now (t .entry)) ⌝ }
 {

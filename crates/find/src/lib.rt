@@ -1,18 +1,18 @@
 // Searches over the used records, and whose turn it is.
+use decide::turns::Found;
+use decide::turns::Want;
+use decide::turns::choose;
+use decide::turns::turn_of;
+use decide::turns::wants;
 use octets::get8;
 use records::tasks::task_from;
-use turns::Found;
-use turns::Want;
-use turns::choose;
-use turns::turn_of;
-use turns::wants;
 use values::Allegiance;
 use values::Turn;
 ghost use mathlib.Core.Path.{_≡_};
 ghost use Prim.Native.Nat.{_≤_};
 ghost use lib.ListN.{length, drop};
 ghost use Rattle.laws.specs.Lists.{first};
-ghost use Rattle.turns.specs.Searches.{wanted, foundIn, searchedTurn};
+ghost use Rattle.decide.specs.Searches.{wanted, foundIn, searchedTurn};
 ghost use Rattle.records.specs.Tables.{tasksFrom};
 
 // The oldest of the first n tasks that the search wants.

@@ -1,9 +1,9 @@
 // Completions.
 use decide::states::is_aca;
 use decide::states::is_enabled;
+use decide::turns::Found;
 use parts::aca_if;
 use parts::told_without_tas;
-use turns::Found;
 use values::Allegiance;
 use values::Answer;
 use values::Change;
@@ -18,7 +18,7 @@ use values::Task;
 ghost use mathlib.Core.Path.{_≡_};
 ghost use mathlib.Core.Option.{some};
 ghost use Rattle.rules.specs.Rules.{toldByQerr, acaAfter};
-ghost use Rattle.turns.specs.Searches.{taskIn};
+ghost use Rattle.decide.specs.Searches.{taskIn};
 
 fn told_by_qerr(qerr: Qerr, tas: bool, n: u8) -> Notice
     ensures { λ r. ⌜ r ≡ toldByQerr qerr tas n ⌝ }

@@ -21,8 +21,8 @@ use Rattle.records.specs.Numbers.{pendingFrom}
 use Rattle.records.specs.Records.{headerFrom}
 use Rattle.records.specs.Tables.{tasksFrom, pendingsFrom, stateOf, goodTable}
 use Rattle.records.proofs.Good.{good-tested}
-use Rattle.turns.proofs.Turns.{turn-found, chosen-named}
-use Rattle.turns.specs.Searches.{searchedTurn}
+use Rattle.decide.proofs.Chosen.{turn-found, chosen-named}
+use Rattle.decide.specs.Searches.{searchedTurn}
 use Rattle.rules.specs.Types.{Task, Event, Command, Completion, Management, Condition, Allegiance, Clear, Faulted, Header, Pending, Turn}
 use Rattle.ruling.specs.Deciding.{hasAca, pendingAt, searchedRuling}
 

@@ -11,7 +11,7 @@ use Rattle.laws.specs.Lists.{any, first}
 use Rattle.rules.specs.Tasks.{acaTask, same, isNamed}
 use Rattle.rules.specs.Rules.{enter, complete, manage, happen}
 use Rattle.records.specs.Numbers.{pendingFrom}
-use Rattle.turns.specs.Searches.{searchedTurn}
+use Rattle.decide.specs.Searches.{searchedTurn}
 use Rattle.rules.specs.Types.{Task, Event, Command, Completion, Management, Condition, Allegiance, Clear, Faulted, Header, Pending, Ruling}
 
 abbrev pub hasAca : Allegiance → List Task → Bool

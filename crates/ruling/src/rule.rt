@@ -1,4 +1,7 @@
 // The ruling on an event, from the table's header and what searches over its bytes find.
+use decide::turns::Want;
+use decide::turns::is_here;
+use decide::turns::is_named;
 use find::search;
 use find::turn_in;
 use judge::ending::complete;
@@ -6,9 +9,6 @@ use judge::entry::enter;
 use manage::happen;
 use manage::manage;
 use records::nexus::pending_from;
-use turns::Want;
-use turns::is_here;
-use turns::is_named;
 use values::Allegiance;
 use values::Entry;
 use values::Event;

@@ -4,7 +4,7 @@ use Prim.Native.Nat.{_≤_, _-_, _+_, _*_}
 use native.Mathlib.Omega.{arith}
 use lib.ListN.{drop}
 use Rattle.laws.specs.Lists.{first}
-use Rattle.turns.specs.Searches.{wanted, foundIn}
+use Rattle.decide.specs.Searches.{wanted, foundIn}
 use Rattle.records.specs.Tables.{tasksFrom}
 use Rattle.records.proofs.TaskRecords.{tasks-next}
 use Rattle.find.proofs.search.Statement.{statement}

@@ -2,7 +2,7 @@ use borrow.Author.Needs.{needs}
 use lib.ListN.{drop}
 use Rattle.rules.specs.Tasks.{acaTask}
 use Rattle.records.specs.Tables.{tasksFrom}
-use Rattle.turns.proofs.Turns.{here-any}
+use Rattle.decide.proofs.Chosen.{here-any}
 use Rattle.ruling.proofs.rule.has_aca.Statement.{statement}
 use Rattle.ruling.proofs.rule.has_aca.Tie as tie
 

@@ -2,7 +2,7 @@ use borrow.Author.Needs.{needs}
 use lib.ListN.{drop}
 use Rattle.rules.specs.Tasks.{same}
 use Rattle.records.specs.Tables.{tasksFrom}
-use Rattle.turns.proofs.Turns.{here-any}
+use Rattle.decide.proofs.Chosen.{here-any}
 use Rattle.ruling.specs.Deciding.{searchedRuling}
 use Rattle.ruling.proofs.rule.rule_command.Statement.{statement}
 use Rattle.ruling.proofs.rule.rule_command.Tie as tie

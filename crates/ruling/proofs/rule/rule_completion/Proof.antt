@@ -3,7 +3,7 @@ use lib.ListN.{drop}
 use Rattle.laws.specs.Lists.{first}
 use Rattle.rules.specs.Tasks.{same}
 use Rattle.records.specs.Tables.{tasksFrom}
-use Rattle.turns.proofs.Turns.{task-found}
+use Rattle.decide.proofs.Chosen.{task-found}
 use Rattle.ruling.specs.Deciding.{searchedRuling}
 use Rattle.ruling.proofs.rule.rule_completion.Statement.{statement}
 use Rattle.ruling.proofs.rule.rule_completion.Tie as tie

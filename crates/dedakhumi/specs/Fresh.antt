@@ -1,0 +1,14 @@
+-- The loop that writes a fresh table's nexus records.
+use Prim.Native.Nat.{ℕ}
+use mathlib.Core.List.{List, _++_}
+use lib.ListN.{take, drop}
+use Rattle.laws.specs.Records.{eachRecord}
+use Rattle.rules.specs.Bits.{noPending, afterPowerOn}
+use Rattle.records.specs.Records.{nexusBytes}
+use Rattle.steps.specs.Steps.{nextPlace}
+
+abbrev pub freshNexus : ℕ → List ℕ → List ℕ
+freshNexus i r = nexusBytes i (afterPowerOn noPending)
+
+unfoldable pub freshNexuses : List ℕ → List ℕ
+freshNexuses b = take 8 b ++ eachRecord 8 freshNexus nextPlace 0 8 (drop 8 b)
