@@ -32,12 +32,7 @@ fn note_if(t: &mut [u8], n: usize, w: Sweep, k: Notice)
 {
     match k {
         Notice::Quiet => {}
-        Notice::Reported(_, _) => note(t, n, w, k),
-        Notice::OthersLost(_) => note(t, n, w, k),
-        Notice::NexusLost(_) => note(t, n, w, k),
-        Notice::UnitWasReset => note(t, n, w, k),
-        Notice::HardWasReset => note(t, n, w, k),
-        Notice::PowerCameOn => note(t, n, w, k),
+        _ => note(t, n, w, k),
     }
 }
 

@@ -36,7 +36,7 @@ use mathlib.Core.Bool.{Bool, true, false, _&&_}
 use mathlib.Core.List.{List, [], _∷_, _++_}
 use lib.Dec.{eqb}
 use lib.ListN.{length, replicate}
-use Rattle.values.specs.declared.rulings.Turn.{Turn, the-variants.Nothing, the-variants.Names}
+use Rattle.values.specs.declared.Turn.{Turn, the-variants.Nothing, the-variants.Names}
 use Rattle.operations.specs.Types.{Naming}
 use Rattle.operations.specs.Answers.{Said, said}
 use Rattle.operations.specs.Operations.{Outcome, outcome, named, Started, started}

@@ -6,9 +6,9 @@
 --   runNext h a named                := the header after a completion of a task with attribute a, by whether it was the named one
 use Prim.Native.Nat.{ℕ, _+_, min}
 use mathlib.Core.Bool.{Bool, cond}
-use Rattle.values.specs.declared.tasks.Attribute.{Attribute, the-variants.Simple, the-variants.HeadOfQueue, the-variants.Ordered, the-variants.Aca}
-use Rattle.values.specs.declared.header.Allegiance.{Allegiance}
-use Rattle.values.specs.declared.header.Header.{Header}
+use Rattle.values.specs.declared.Attribute.{Attribute, the-variants.Simple, the-variants.HeadOfQueue, the-variants.Ordered, the-variants.Aca}
+use Rattle.values.specs.declared.Allegiance.{Allegiance}
+use Rattle.values.specs.declared.Header.{Header}
 
 abbrev pub mostRun : ℕ
 mostRun = 4

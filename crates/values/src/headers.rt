@@ -1,34 +1,11 @@
-// The header's state: policy, task count, ACA and run (document 01, "Bytes").
-use crate::tasks::Attribute;
+// A header with a part of it changed, and run after a turn (document 01, "Turn rule").
+use crate::Allegiance;
+use crate::Attribute;
+use crate::Header;
 ghost use mathlib.Core.Path.{_≡_};
 ghost use mathlib.Core.Bool.{cond};
 ghost use Prim.Native.Nat.{_+_, min};
 ghost use Rattle.values.specs.Headers.{withCount, withAca, withRun, runAfter, runNext};
-
-// QERR 00b, 01b and 11b.
-pub enum Qerr {
-    EndNone,
-    EndAll,
-    EndNexus,
-}
-
-pub struct Policy {
-    pub qerr: Qerr,
-    pub tas: bool,
-}
-
-// Whether an auto contingent allegiance is in effect, and for which nexus.
-pub enum Allegiance {
-    Clear,
-    Faulted(u8),
-}
-
-pub struct Header {
-    pub policy: Policy,
-    pub count: u8,
-    pub aca: Allegiance,
-    pub run: u8,
-}
 
 impl Header {
     pub fn with_count(self, n: u8) -> Header

@@ -1,6 +1,6 @@
 use borrow.Author.Needs.{needs}
-use Rattle.values.proofs.header.run_after.Statement.{statement}
-use Rattle.values.proofs.header.run_after.Tie as tie
+use Rattle.values.proofs.headers.run_after.Statement.{statement}
+use Rattle.values.proofs.headers.run_after.Tie as tie
 
 pub run-after-spec : {M : Type 1} → statement M
 run-after-spec =

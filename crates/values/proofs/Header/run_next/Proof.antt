@@ -1,6 +1,6 @@
 use borrow.Author.Needs.{needs}
-use Rattle.values.proofs.header.Header.run_next.Statement.{statement}
-use Rattle.values.proofs.header.Header.run_next.Tie as tie
+use Rattle.values.proofs.Header.run_next.Statement.{statement}
+use Rattle.values.proofs.Header.run_next.Tie as tie
 
 pub run-next-spec : {M : Type 1} → statement M
 run-next-spec =
