@@ -90,7 +90,7 @@ test:
 		$(MAKE) --no-print-directory "test-$$test" || { echo "make test: stopped, since the test '$$test' failed" >&2; exit 1; }; \
 	done
 	@mkdir -p build
-	@RT_JOBS=$${RT_JOBS:-4} rt ci 2>&1 | tee build/ci.log
+	@TMPDIR=$$(tests/room) rt ci 2>&1 | tee build/ci.log
 
 .PHONY: $(TESTS:%=test-%)
 test-need:

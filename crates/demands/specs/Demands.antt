@@ -53,7 +53,7 @@ pub record Fields (o : Outcome) : Type 0 where
 
 -- The mission's 1: every event gets an answer, whatever its bytes and whatever the table holds; a bad table, policy, report buffer, event or nexus is
 -- refused by the number in document 01 with both lent buffers unchanged, and no caller is trusted to have looked first. The last is met by the
--- functions of src/lib.rt having no `requires`: what is said here of outcome, started and named for all lists they promise for all buffers.
+-- functions of dedakhumi/src/lib.rt having no `requires`: what is said here of outcome, started and named for all lists they promise for all buffers.
 pub record Demand1 : Type 0 where
   -- apply answers one of 0 to 8: each of 1 to 8 exactly where it applies, and so 0 exactly where none of them does
   pub some-answer : (t r e : List ℕ) → number t r e ≤ 8

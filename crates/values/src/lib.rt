@@ -1,5 +1,5 @@
 // The lower layer's values: tasks, header, events, unit attentions, answers, rulings. No byte of the table is known here. They are declared at the root,
-// under their short paths: the prover spells out each type's path wherever a variable of it is, and a tenth of a crate's check went into it.
+// under their short paths: the prover spells out each type's path wherever a variable of it is, which was up to a tenth of a crate's check.
 mod headers;
 
 // ---- A task in the set (document 01, "Bytes").
