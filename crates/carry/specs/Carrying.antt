@@ -8,7 +8,7 @@ use mathlib.Core.Bool.{true}
 use mathlib.Core.Path.{_≡_}
 use mathlib.Core.List.{List}
 use lib.ListN.{length}
-use Rattle.laws.specs.Records.{recordAt, putAt}
+use Rattle.laws.specs.RecordsInLists.{recordAt, putAt}
 use Rattle.rules.specs.Well.{faultFits}
 use Rattle.records.specs.Records.{headerBytes, taskBytes}
 use Rattle.steps.specs.Steps.{notedBytes}

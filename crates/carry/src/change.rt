@@ -19,7 +19,7 @@ ghost use Prim.Native.Nat.{_+_, _≤_};
 ghost use lib.ListN.{length, drop};
 ghost use Rattle.rules.specs.Rulings.{newcomers, ruled, reportOf};
 ghost use Rattle.rules.specs.Well.{wellFormed};
-ghost use Rattle.laws.specs.Records.{putAt};
+ghost use Rattle.laws.specs.RecordsInLists.{putAt};
 ghost use Rattle.records.specs.Records.{headerBytes};
 ghost use Rattle.records.specs.Tables.{stateOf, tableBytes, reportBytes, goodTable};
 ghost use Rattle.steps.specs.Steps.{losers};

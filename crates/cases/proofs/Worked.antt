@@ -1,7 +1,7 @@
 -- Every case is right, by computation: document 01's A to I, and those that it lacks.
 use mathlib.Core.Bool.{true}
 use mathlib.Core.Path.{_≡_, refl}
-use Rattle.rules.specs.Tasks.{named as whoseTurn}
+use Rattle.rules.specs.Tasks.{whoseTurn}
 use Rattle.rules.specs.Rulings.{fresh}
 use Rattle.rules.specs.Rules.{newTask, enter, complete, manage, happen, ruleFor, ruling}
 use Rattle.rules.specs.Well.{wellFormed}

@@ -38,7 +38,7 @@ use lib.Dec.{eqb}
 use lib.ListN.{length, replicate}
 use Rattle.values.specs.declared.Turn.{Turn, the-variants.Nothing, the-variants.Names}
 use Rattle.operations.specs.Types.{Naming}
-use Rattle.operations.specs.Answers.{Said, said}
+use Rattle.operations.specs.AnswerNumbers.{Said, said}
 use Rattle.operations.specs.Operations.{Outcome, outcome, named, Started, started}
 
 -- Bytes ------------------------------------------------------------------------------------------------------------------------------------

@@ -6,10 +6,10 @@ use mathlib.Core.List.{List, [], _∷_}
 use mathlib.Core.Option.{Option, none, some}
 use lib.Dec.{ltb}
 use Rattle.laws.specs.Lists.{any, first}
-use Rattle.rules.specs.Tasks.{enabledTask, enabledHead, enabledPlain, named, turnOf}
+use Rattle.rules.specs.Tasks.{enabledTask, enabledHead, enabledPlain, whoseTurn, turnOf}
 use Rattle.rules.specs.Well.{settled}
 use Rattle.rules.proofs.Settled.{oldest-enabled}
-use Rattle.rules.proofs.Turns.{oldest-plain, else-not-head}
+use Rattle.rules.proofs.TurnRule.{oldest-plain, else-not-head}
 use Rattle.rules.specs.Types.{Task, Clear}
 use Rattle.decide.specs.Searches.{isHere, foundIn, taskIn, chosen, turnFound}
 
@@ -40,8 +40,8 @@ else-found run (u ∷ us) e b =
 -- the choice of two searches is the turn rule's
 pub chosen-named :
     (run : ℕ) (ts : List Task) → settled [] ts ≡ true
-    → turnFound (chosen (foundIn (first enabledHead ts)) (foundIn (first enabledPlain ts)) run) ≡ turnOf (named Clear run ts)
-unfolding named
+    → turnFound (chosen (foundIn (first enabledHead ts)) (foundIn (first enabledPlain ts)) run) ≡ turnOf (whoseTurn Clear run ts)
+unfolding whoseTurn
 chosen-named run ts e =
     rw (here-any enabledHead ts, here-any enabledPlain ts)
     (go (any enabledHead ts && (ltb run 4 || not (any enabledPlain ts))) refl)

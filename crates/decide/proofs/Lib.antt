@@ -1,2 +1,2 @@
 pub mod Chosen
-pub mod Walks
+pub mod OlderTasks

@@ -1,3 +1,3 @@
 pub mod Searches
 pub mod Types
-pub mod Walks
+pub mod OlderTasks

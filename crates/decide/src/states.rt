@@ -6,7 +6,7 @@ use values::TaskState;
 ghost use mathlib.Core.Path.{_≡_};
 ghost use Rattle.rules.specs.Tasks.{isHead, isPlain, isAca, isEnabled, enabledIf, blockedIfEnabled};
 ghost use Rattle.rules.specs.Well.{sameState, settledTask, heldTask};
-ghost use Rattle.decide.specs.Walks.{noOlder, behindBy, eligibleBy, fitsBy};
+ghost use Rattle.decide.specs.OlderTasks.{noOlder, behindBy, eligibleBy, fitsBy};
 
 // What older tasks there are: any at all, and any that is HEAD OF QUEUE or ORDERED.
 pub struct Older {

@@ -5,7 +5,7 @@ use mathlib.Core.List.{List, [], _++_, append-assoc, append-nil}
 use native.Mathlib.Numerals.{add-one}
 use lib.ListN.{length, drop, replicate, length-append}
 use lib.Seq.{drop-drop, drop-length, take-at, drop-at}
-use Rattle.laws.specs.Records.{putAt, eachRecord}
+use Rattle.laws.specs.RecordsInLists.{putAt, eachRecord}
 use Rattle.rules.specs.Tasks.{places, nexuses}
 use Rattle.rules.specs.Bits.{noPending, afterPowerOn}
 use Rattle.rules.specs.Rulings.{fresh}
@@ -13,7 +13,7 @@ use Rattle.records.specs.Records.{headSize, nexusSize, headerBytes, nexusBytes}
 use Rattle.records.specs.Tables.{tableSize, tasksAt, nexusRecords, unusedRecords, tableBytes}
 use Rattle.steps.specs.Steps.{nextPlace, vacatedBytes}
 use Rattle.steps.proofs.Closes.{cleared}
-use Rattle.steps.proofs.Walks.{each-new}
+use Rattle.steps.proofs.InPlace.{each-new}
 use Rattle.rules.specs.Types.{Policy, Pending}
 use Rattle.dedakhumi.specs.Fresh.{freshNexus, freshNexuses}
 

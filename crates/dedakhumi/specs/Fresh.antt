@@ -2,7 +2,7 @@
 use Prim.Native.Nat.{ℕ}
 use mathlib.Core.List.{List, _++_}
 use lib.ListN.{take, drop}
-use Rattle.laws.specs.Records.{eachRecord}
+use Rattle.laws.specs.RecordsInLists.{eachRecord}
 use Rattle.rules.specs.Bits.{noPending, afterPowerOn}
 use Rattle.records.specs.Records.{nexusBytes}
 use Rattle.steps.specs.Steps.{nextPlace}

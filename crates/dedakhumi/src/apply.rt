@@ -21,7 +21,7 @@ ghost use Rattle.rules.specs.Rulings.{ruled};
 ghost use Rattle.rules.specs.Rules.{nexusOf, ruling};
 ghost use Rattle.rules.specs.Well.{wellFormed};
 ghost use Rattle.records.specs.Tables.{stateOf, goodTable};
-ghost use Rattle.operations.specs.Answers.{writesReport};
+ghost use Rattle.operations.specs.AnswerNumbers.{writesReport};
 ghost use Rattle.operations.specs.Operations.{carried, outcome, AppliedAs};
 
 fn writes_report(a: Answer) -> bool

@@ -9,7 +9,7 @@ use Rattle.rules.specs.Tasks.{isEnabled}
 use Rattle.rules.specs.Rulings.{State}
 use Rattle.rules.specs.Rules.{clearing, complete, manage, happen, ruleFor}
 use Rattle.rules.proofs.Cases.{enter-cases}
-use Rattle.operations.specs.Answers.{said}
+use Rattle.operations.specs.AnswerNumbers.{said}
 use Rattle.rules.specs.Types.{Task, Finish, Function, AbortTask, AbortTaskSet, ClearTaskSet, ClearAca, LogicalUnitReset, Unknown, Happening, PowerOn, HardReset, NexusLoss, Event, Command, Completion, Management, Condition, Allegiance, Clear, Faulted, Answer, Ruling, Keeps, Changes}
 
 abbrev pub numberOf : Answer → ℕ

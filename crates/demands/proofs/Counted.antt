@@ -20,7 +20,7 @@ use Rattle.operations.specs.Operations.{naming}
 use Rattle.rules.specs.Types.{Event, Command, Completion, Management, Condition, Allegiance, Clear, Faulted, Answer, Done, BadTable, BadReport, BadEvent, NexusAboveSeven, NoSuchTask, NotEnabled, EndedAtEntry, Rejected, BadPolicy, Named, Turn, Nothing, Names}
 use Rattle.records.specs.declared.events.EventRead.{EventRead, the-variants.Readable, the-variants.Unreadable}
 use Rattle.numbers.specs.Boundary.{turnFor}
-use Rattle.demands.specs.Moves.{Move, heardIf, heard, eventsIn, expectedOn, expectedIf, expected}
+use Rattle.demands.specs.Calls.{Call, heardIf, heard, eventsIn, expectedOn, expectedIf, expected}
 use Rattle.demands.specs.Seen.{kindOf, eventName, isNamedBy, isTurnBy, turnsBy}
 use Rattle.demands.proofs.Answered.{numberOf}
 use Rattle.demands.proofs.Runs.{outcome-is, named-is, one-call}
@@ -84,10 +84,10 @@ module _ (s : State) (r e : List ℕ) where
   turn-if false o q = refused-none (kindOf e) (eventName e)
 
 -- the report buffer is as long as it has to be
-abbrev pub fits : Move → Bool
+abbrev pub fits : Call → Bool
 fits m = eqb (length (m .report)) reportSize
 
-turn-is : (s : State) (m : Move) → Tested s → isTurnBy (tableBytes s) m ≡ turnIf (fits m) s (eventOf (m .event))
+turn-is : (s : State) (m : Call) → Tested s → isTurnBy (tableBytes s) m ≡ turnIf (fits m) s (eventOf (m .event))
 unfolding isTurnBy
 turn-is s m w =
     rw (aca-byte s, clear-byte (s .header .aca), named-is s w, outcome-is s m w, done-number ((expected s m) .answer))
@@ -100,7 +100,7 @@ one-event false h o es = omega arith
 one-event true h Unreadable es = omega arith
 one-event true h (Readable e) es = refl
 
-pub turns-run : (ms : List Move) (h : Past) → Tested (h .state) → turnsBy (tableBytes (h .state)) ms ≡ turns h (eventsIn ms)
+pub turns-run : (ms : List Call) (h : Past) → Tested (h .state) → turnsBy (tableBytes (h .state)) ms ≡ turns h (eventsIn ms)
 turns-run [] h w = refl
 turns-run (m ∷ ms) h w =
     let h′ = play h (heard m) in

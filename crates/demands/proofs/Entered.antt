@@ -15,14 +15,14 @@ use Rattle.records.specs.Events.{eventOf}
 use Rattle.history.specs.History.{Past, advance, play, accepted, isDone}
 use Rattle.rules.specs.Types.{Task, Entry, Event, Command, Completion, Management, Condition, Ruling}
 use Rattle.records.specs.declared.events.EventRead.{EventRead, the-variants.Readable, the-variants.Unreadable}
-use Rattle.demands.specs.Moves.{Move, heardIf, heard, taskIn, expectedIf, expected}
+use Rattle.demands.specs.Calls.{Call, heardIf, heard, commandTask, expectedIf, expected}
 use Rattle.demands.specs.Seen.{kindOf, isAccepted}
 use Rattle.demands.proofs.Runs.{outcome-is}
 use Rattle.demands.proofs.Counted.{done-number, fits}
 use Rattle.demands.proofs.Reading.{Reads, event-reads}
 
 abbrev pub Enters : Event → Ruling → Type 0
-Enters e l = joinsOf l ≡ cond (isDone (answerOf l)) (taskIn (Readable e)) []
+Enters e l = joinsOf l ≡ cond (isDone (answerOf l)) (commandTask (Readable e)) []
 
 nothing : (b c : Bool) → _≡_ {A = List Task} (cond b [] []) (cond c [] [])
 nothing true true = refl
@@ -45,13 +45,13 @@ enters-rule s (Condition c) = none-enters s (Condition c) refl
 
 -- by the kind and whether the answer is 0
 abbrev entering : ℕ → Bool → EventRead → List Task
-entering k d o = cond (eqb k 1 && d) (taskIn o) []
+entering k d o = cond (eqb k 1 && d) (commandTask o) []
 
 refused-none : (k : ℕ) (o : EventRead) → [] ≡ entering k false o
 refused-none k o = rw (and-off (eqb k 1))
 
 entering-is :
-    (e : List ℕ) (v : Event) (d : Bool) → Reads (Readable v) e → cond d (taskIn (Readable v)) [] ≡ entering (kindOf e) d (Readable v)
+    (e : List ℕ) (v : Event) (d : Bool) → Reads (Readable v) e → cond d (commandTask (Readable v)) [] ≡ entering (kindOf e) d (Readable v)
 entering-is e (Command c) d q = ap (λ (k : ℕ). entering k d (Readable (Command c))) (sym (q .0))
 entering-is e (Completion n g f) d q = nothing d (eqb (kindOf e) 1 && d)
 entering-is e (Management n f) d q = nothing d (eqb (kindOf e) 1 && d)
@@ -67,20 +67,20 @@ lets-if h true r e (Readable v) q =
     ap (λ (l : List Task). h .roll ++ l) (enters-rule (h .state) v ∙ entering-is e v (isDone (answerOf (ruling (h .state) v))) q)
 
 pub lets-one :
-    (h : Past) (m : Move) → Tested (h .state)
-    → (play h (heard m)) .roll ≡ h .roll ++ cond (isAccepted (tableBytes (h .state)) m) (taskIn (eventOf (m .event))) []
+    (h : Past) (m : Call) → Tested (h .state)
+    → (play h (heard m)) .roll ≡ h .roll ++ cond (isAccepted (tableBytes (h .state)) m) (commandTask (eventOf (m .event))) []
 lets-one h m w =
     rw (outcome-is (h .state) m w, done-number ((expected (h .state) m) .answer))
     (lets-if h (fits m) (m .report) (m .event) (eventOf (m .event)) (event-reads (m .event) (eventOf (m .event)) refl))
 
 -- what a call that is accepted brings
-pub record Entering (h : Past) (m : Move) : Type 0 where
+pub record Entering (h : Past) (m : Call) : Type 0 where
   pub command : Entry
   pub read : eventOf (m .event) ≡ Readable (Command command)
   pub asked : heard m ≡ Command command ∷ []
   pub joins : accepted (h .state) (Command command) ≡ newTask command ∷ []
 
-pub accepted-enters : (h : Past) (m : Move) → Tested (h .state) → isAccepted (tableBytes (h .state)) m ≡ true → Entering h m
+pub accepted-enters : (h : Past) (m : Call) → Tested (h .state) → isAccepted (tableBytes (h .state)) m ≡ true → Entering h m
 unfolding answer
 accepted-enters h m w a =
     go (fits m) (eventOf (m .event)) refl refl (event-reads (m .event) (eventOf (m .event)) refl)

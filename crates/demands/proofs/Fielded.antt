@@ -10,7 +10,7 @@ use lib.ListN.{length, getD, take, drop, replicate, length-map}
 use lib.Seq.{getD-take, getD-drop}
 use borrow.Author.Tests.{eqb-true, eqb-false, eq-eqb, ne-eqb}
 use Rattle.laws.specs.Lists.{one-if}
-use Rattle.laws.specs.Records.{joined}
+use Rattle.laws.specs.RecordsInLists.{joined}
 use Rattle.laws.proofs.Bools.{split, or-true}
 use Rattle.rules.specs.Tasks.{places}
 use Rattle.rules.specs.Rulings.{State, lost, fatesOf, answerOf, reportOf, taskName, endedName}
@@ -19,17 +19,17 @@ use Rattle.rules.proofs.Fates.{length-split, report-names}
 use Rattle.rules.proofs.Refusals.{sense-with-check, status-of-entry}
 use Rattle.records.specs.Records.{taskSize, marked, endedBytes}
 use Rattle.records.specs.Tables.{reportSize, reportBytes}
-use Rattle.operations.specs.Answers.{only, said, writesReport}
+use Rattle.operations.specs.AnswerNumbers.{only, said, writesReport}
 use Rattle.operations.specs.Operations.{refused, carried}
 use Rattle.rules.specs.Types.{Event, Sense, Ended, Answer, Done, BadTable, BadReport, BadEvent, NexusAboveSeven, NoSuchTask, NotEnabled, EndedAtEntry, Rejected, BadPolicy, Ruling, Keeps, Changes}
-use Rattle.demands.specs.Seen.{endedFrom, endedIn}
+use Rattle.demands.specs.Seen.{endedAmong, endedIn}
 use Rattle.demands.specs.Demands.{Fields}
 use Rattle.demands.proofs.Answered.{numberOf, AnsweredAs}
 use Rattle.demands.proofs.Runs.{writes-7}
 
 -- Ended records ------------------------------------------------------------------------------------------------------------------------------
 
-no-records : (n : ℕ) (l : List ℕ) → ((i : ℕ) → getD l i 0 ≡ 0) → endedFrom n l ≡ 0
+no-records : (n : ℕ) (l : List ℕ) → ((i : ℕ) → getD l i 0 ≡ 0) → endedAmong n l ≡ 0
 no-records zero l z = refl
 no-records (suc n) l z =
     rw (getD-take taskSize l 0 0 (omega arith), z 0)
@@ -40,7 +40,7 @@ zeros zero i = refl
 zeros (suc m) zero = refl
 zeros (suc m) (suc i) = zeros m i
 
-records-counted : (n m : ℕ) (es : List Ended) → length es ≤ n → endedFrom n (joined endedBytes es ++ replicate m 0) ≡ length es
+records-counted : (n m : ℕ) (es : List Ended) → length es ≤ n → endedAmong n (joined endedBytes es ++ replicate m 0) ≡ length es
 records-counted n m [] l = no-records n (replicate m 0) (zeros m)
 records-counted zero m (e ∷ es) l = absurd (omega arith)
 records-counted (suc n) m (e ∷ es) l = rw (records-counted n m es (omega arith)) (omega arith)

@@ -10,7 +10,7 @@ use Rattle.rules.proofs.WellKept.{tested-fresh}
 use Rattle.records.specs.Numbers.{policyFrom}
 use Rattle.records.specs.Tables.{tableBytes}
 use Rattle.records.specs.Events.{eventOf}
-use Rattle.records.proofs.Written.{state-back-again}
+use Rattle.records.proofs.ReadBack.{state-back-again}
 use Rattle.records.proofs.GoodSays.{good-written, good-table-says}
 use Rattle.history.specs.History.{Past, begin, play, after}
 use Rattle.history.proofs.Reached.{tested-after}
@@ -20,7 +20,7 @@ use Rattle.operations.specs.Operations.{started}
 use Rattle.operations.proofs.Starts.{started-cases}
 use Rattle.rules.specs.Types.{Task, Event, Policy}
 use Rattle.numbers.specs.Boundary.{startNumber}
-use Rattle.demands.specs.Moves.{Move, tableBy, heard, eventsIn, taskIn, opened}
+use Rattle.demands.specs.Calls.{Call, tableBy, heard, eventsIn, commandTask, opened}
 use Rattle.demands.specs.Seen.{presentIn, isAccepted, listedBy, ledgerBy}
 use Rattle.demands.specs.Demands.{Demand2}
 use Rattle.demands.proofs.Answered.{numberOf}
@@ -37,29 +37,29 @@ started-opened t b =
     (λ q. refl)
 
 module _ (p : Policy) where
-  pub table-after : (ms : List Move) → tableBy (opened p) ms ≡ tableBytes ((after p (eventsIn ms)) .state)
+  pub table-after : (ms : List Call) → tableBy (opened p) ms ≡ tableBytes ((after p (eventsIn ms)) .state)
   unfolding opened
   table-after ms = table-runs ms (begin (fresh p)) (tested-fresh p)
 
-  pub after-append : (xs ys : List Move) → after p (eventsIn (xs ++ ys)) ≡ play (after p (eventsIn xs)) (eventsIn ys)
+  pub after-append : (xs ys : List Call) → after p (eventsIn (xs ++ ys)) ≡ play (after p (eventsIn xs)) (eventsIn ys)
   after-append xs ys = rw (events-append xs ys) (play-append (begin (fresh p)) (eventsIn xs) (eventsIn ys))
 
   pub lets-after :
-      (ms : List Move) (m : Move)
+      (ms : List Call) (m : Call)
       → (after p (eventsIn (ms ++ (m ∷ [])))) .roll
-      ≡ (after p (eventsIn ms)) .roll ++ cond (isAccepted (tableBy (opened p) ms) m) (taskIn (eventOf (m .event))) []
+      ≡ (after p (eventsIn ms)) .roll ++ cond (isAccepted (tableBy (opened p) ms) m) (commandTask (eventOf (m .event))) []
   lets-after ms m =
       let h = after p (eventsIn ms) in
       ap (λ (g : Past). g .roll) (after-append ms (m ∷ []))
       ∙ ap (λ (l : List Event). (play h l) .roll) (append-nil (heard m))
       ∙ lets-one h m (tested-after p (eventsIn ms))
-      ∙ ap (λ (t : List ℕ). h .roll ++ cond (isAccepted t m) (taskIn (eventOf (m .event))) []) (sym (table-after ms))
+      ∙ ap (λ (t : List ℕ). h .roll ++ cond (isAccepted t m) (commandTask (eventOf (m .event))) []) (sym (table-after ms))
 
-  listed-all : (ms : List Move) → listedBy (opened p) ms ≡ map endedName ((after p (eventsIn ms)) .log)
+  listed-all : (ms : List Call) → listedBy (opened p) ms ≡ map endedName ((after p (eventsIn ms)) .log)
   unfolding opened
   listed-all ms = listed-run ms (begin (fresh p)) (tested-fresh p)
 
-  ledger-after : (ms : List Move) → ledgerBy (opened p) ms [] ≡ some (presentIn (tableBy (opened p) ms))
+  ledger-after : (ms : List Call) → ledgerBy (opened p) ms [] ≡ some (presentIn (tableBy (opened p) ms))
   unfolding opened fresh
   ledger-after ms =
       ledger-run ms (begin (fresh p)) (tested-fresh p)

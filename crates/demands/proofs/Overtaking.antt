@@ -10,7 +10,7 @@ use lib.Seq.{split-at, getD-drop}
 use borrow.Author.Tests.{eq-eqb, not-false, ltb-true, ltb-false}
 use lib.Dec.{ltb}
 use Rattle.laws.specs.Lists.{any}
-use Rattle.laws.proofs.Records.{record-byte, walked-at}
+use Rattle.laws.proofs.RecordsInLists.{record-byte, walked-at}
 use Rattle.laws.proofs.Bools.{and-false, or-false, not-both, split}
 use Rattle.rules.specs.Tasks.{isPlain, same, enabledTask, enabledPlain, isNamed}
 use Rattle.rules.specs.Rulings.{State, turn}
@@ -18,7 +18,7 @@ use Rattle.rules.specs.Rules.{nexusOf, answer}
 use Rattle.rules.specs.Refusals.{Waits, not-enabled}
 use Rattle.rules.specs.Well.{WellFormed}
 use Rattle.rules.proofs.Order.{isBarrier, no-overtaking}
-use Rattle.rules.proofs.Turns.{named-completes, somebody-named}
+use Rattle.rules.proofs.TurnRule.{named-completes, somebody-named}
 use Rattle.rules.proofs.Refusals.{nexus-says}
 use Rattle.records.specs.Numbers.{attributeFrom}
 use Rattle.records.specs.Records.{headSize, taskSize, taskFrom}
@@ -32,7 +32,7 @@ use Rattle.operations.proofs.Names.{named-good}
 use Rattle.rules.specs.Types.{Task, Finish, Event, Command, Completion, Management, Condition, Clear, Done, Named, Turn, Nothing, Names}
 use Rattle.records.specs.declared.events.EventRead.{the-variants.Readable}
 use Rattle.numbers.specs.declared.NamedTurn.{NamedTurn}
-use Rattle.numbers.specs.Boundary.{turnOf, turnFor}
+use Rattle.numbers.specs.Boundary.{turnInNumbers, turnFor}
 use Rattle.demands.specs.Seen.{kindOf, eventName, recordName, taskAt, attributeAt}
 use Rattle.demands.specs.Demands.{number, Reaches}
 use Rattle.demands.proofs.Reading.{event-reads}
@@ -131,7 +131,7 @@ module _ (t r e : List ℕ) (done : number t r e ≡ 0) (completes : kindOf e �
 -- Whom name names ----------------------------------------------------------------------------------------------------------------------------
 
 module _ (t : List ℕ) (good : GoodTable t) where
-  turn-is : turnFor (named t) ≡ turnOf Done (turn (stateOf t))
+  turn-is : turnFor (named t) ≡ turnInNumbers Done (turn (stateOf t))
   turn-is = ap turnFor (named-good t (good-table-says t .1 good))
 
   low-if-done : (v : Event) → answer (stateOf t) v ≡ Done → nexusOf v < 8
@@ -140,8 +140,8 @@ module _ (t : List ℕ) (good : GoodTable t) where
       (λ y. not-both (ap isDone q) (ap isDone (nexus-says (stateOf t) v .1 (ltb-false (nexusOf v) 8 y))))
 
   done-by :
-      (r : List ℕ) (f : Finish) → length r ≡ 512 → (u : Turn) → turn (stateOf t) ≡ u → (turnOf Done u) .found ≡ true
-      → number t r (eventBytes (Completion ((turnOf Done u) .nexus) ((turnOf Done u) .tag) f)) ≡ 0
+      (r : List ℕ) (f : Finish) → length r ≡ 512 → (u : Turn) → turn (stateOf t) ≡ u → (turnInNumbers Done u) .found ≡ true
+      → number t r (eventBytes (Completion ((turnInNumbers Done u) .nexus) ((turnInNumbers Done u) .tag) f)) ≡ 0
   done-by r f l Nothing e q = not-both q refl
   done-by r f l (Names x) e q =
       let v = Completion (x .nexus) (x .tag) f in
@@ -172,7 +172,7 @@ module _ (t : List ℕ) (good : GoodTable t) where
   pub somebody-is-named : getD t 5 0 ≡ 0 → 1 ≤ countIn t → (turnFor (named t)) .found ≡ true
   somebody-is-named c n = ap (λ (u : NamedTurn). u .found) turn-is ∙ go (turn (stateOf t)) refl
     where
-      go : (u : Turn) → turn (stateOf t) ≡ u → (turnOf Done u) .found ≡ true
+      go : (u : Turn) → turn (stateOf t) ≡ u → (turnInNumbers Done u) .found ≡ true
       go Nothing e =
           absurd
           (somebody-named (stateOf t) (good .well) (clear-is c)

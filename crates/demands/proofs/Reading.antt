@@ -4,7 +4,7 @@ use mathlib.Core.Path.{_≡_, refl, ap, _∙_}
 use mathlib.Core.List.{List, [], _∷_, _++_, map}
 use native.Mathlib.Omega.{arith}
 use lib.ListN.{length, getD, drop}
-use Rattle.laws.specs.Records.{joined}
+use Rattle.laws.specs.RecordsInLists.{joined}
 use Rattle.rules.specs.Rulings.{State, taskName, endedName}
 use Rattle.rules.specs.Rules.{attributeOf, newTask}
 use Rattle.rules.proofs.WellKept.{Tested}
@@ -13,7 +13,7 @@ use Rattle.records.specs.Records.{taskSize, endedBytes}
 use Rattle.records.specs.Tables.{tasksFrom, stateOf, tableBytes, reportBytes}
 use Rattle.records.specs.Events.{eventOf, askedNumber}
 use Rattle.records.proofs.Values.{tag-back}
-use Rattle.records.proofs.Written.{state-back-again}
+use Rattle.records.proofs.ReadBack.{state-back-again}
 use Rattle.records.proofs.EventsSay.{event-fields}
 use Rattle.rules.specs.Types.{Aca, Asked, Known, NoneOfFour, Entry, Event, Command, Completion, Management, Condition, Ended, Named}
 use Rattle.records.specs.declared.events.EventRead.{EventRead, the-variants.Readable, the-variants.Unreadable}

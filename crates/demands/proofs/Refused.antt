@@ -24,7 +24,7 @@ use Rattle.operations.proofs.Names.{named-bad, named-good}
 use Rattle.operations.specs.Operations.{Outcome, carried, named}
 use Rattle.rules.specs.Types.{Event, Answer, Done, BadTable, BadReport, BadEvent, NexusAboveSeven, NoSuchTask, NotEnabled, EndedAtEntry, Rejected, BadPolicy, Turn, Nothing, Names, Ruling, Keeps, Changes}
 use Rattle.records.specs.declared.events.EventRead.{the-variants.Readable, the-variants.Unreadable}
-use Rattle.numbers.specs.Boundary.{turnOf, turnFor, startNumber}
+use Rattle.numbers.specs.Boundary.{turnInNumbers, turnFor, startNumber}
 use Rattle.demands.specs.Demands.{Demand1, number, nameNumber, Reaches, Fields}
 use Rattle.demands.proofs.Answered.{numberOf, AnsweredAs, rule-answers}
 use Rattle.demands.proofs.Fielded.{refused-fields, ruled-fields}
@@ -126,11 +126,11 @@ module _ (t r e : List ℕ) where
 
 -- Start and name --------------------------------------------------------------------------------------------------------------------------------
 
-turn-number : (a : Answer) (u : Turn) → (turnOf a u) .answer ≡ numberOf a
+turn-number : (a : Answer) (u : Turn) → (turnInNumbers a u) .answer ≡ numberOf a
 turn-number a Nothing = refl
 turn-number a (Names n) = refl
 
-turn-nothing : (a : Answer) (u : Turn) → (turnOf a u) .found ≡ false → ((turnOf a u) .nexus ≡ 0) × ((turnOf a u) .tag ≡ 0)
+turn-nothing : (a : Answer) (u : Turn) → (turnInNumbers a u) .found ≡ false → ((turnInNumbers a u) .nexus ≡ 0) × ((turnInNumbers a u) .tag ≡ 0)
 turn-nothing a Nothing q = (refl, refl)
 turn-nothing a (Names n) q = not-both refl q
 
@@ -138,7 +138,7 @@ module _ (t : List ℕ) where
   good-named : GoodTable t → nameNumber t ≡ 0
   good-named w = ap (λ n. (turnFor n) .answer) (named-good t (good-table-says t .1 w)) ∙ turn-number Done (turn (stateOf t))
 
-  bad-named : (GoodTable t → ⊥) → turnFor (named t) ≡ turnOf BadTable Nothing
+  bad-named : (GoodTable t → ⊥) → turnFor (named t) ≡ turnInNumbers BadTable Nothing
   bad-named n = ap turnFor (named-bad t (not-good t n))
 
   good-or-bad : {P : Type 0} → (GoodTable t → P) → ((GoodTable t → ⊥) → P) → P

@@ -12,17 +12,17 @@ use Rattle.rules.specs.Rules.{nexusOf, ruleFor, ruling, step, answer, report}
 use Rattle.rules.proofs.WellKept.{Tested}
 use Rattle.records.specs.Tables.{tableBytes, reportBytes}
 use Rattle.records.specs.Events.{eventOf}
-use Rattle.records.proofs.Written.{state-back-again}
+use Rattle.records.proofs.ReadBack.{state-back-again}
 use Rattle.records.proofs.GoodSays.{good-written}
 use Rattle.history.specs.History.{Past, advance, play}
 use Rattle.history.proofs.Reached.{tested-play}
-use Rattle.operations.specs.Answers.{writesReport}
+use Rattle.operations.specs.AnswerNumbers.{writesReport}
 use Rattle.operations.proofs.Looked.{looked, no-report}
 use Rattle.operations.proofs.Names.{named-good}
 use Rattle.operations.specs.Operations.{Outcome, carried, onEvent, outcome, naming, named}
 use Rattle.rules.specs.Types.{Event, Answer, Done, BadTable, BadReport, BadEvent, NexusAboveSeven, NoSuchTask, NotEnabled, EndedAtEntry, Rejected, BadPolicy, Ruling, Keeps, Changes}
 use Rattle.records.specs.declared.events.EventRead.{EventRead, the-variants.Readable, the-variants.Unreadable}
-use Rattle.demands.specs.Moves.{Move, applied, tableBy, heardIf, heard, eventsIn, expectedOn, expectedIf, expected}
+use Rattle.demands.specs.Calls.{Call, applied, tableBy, heardIf, heard, eventsIn, expectedOn, expectedIf, expected}
 use Rattle.demands.proofs.Answered.{numberOf, AnsweredAs, rule-answers}
 
 -- One call -----------------------------------------------------------------------------------------------------------------------------------
@@ -76,7 +76,7 @@ outcome-on s r v w l = looked (tableBytes s) r v (good-written s w) l (eventOf v
         ap (λ (z : State). carried (tableBytes s) r z (ruling z e)) (state-back-again s (w .counted) (w .eight)) ∙ ruling-carried s r e
 
 -- whatever is lent
-pub outcome-is : (s : State) (m : Move) → Tested s → applied (tableBytes s) m ≡ expected s m
+pub outcome-is : (s : State) (m : Call) → Tested s → applied (tableBytes s) m ≡ expected s m
 outcome-is s m w =
     split (eqb (length (m .report)) 512)
     (λ y. rw y (outcome-on s (m .report) (m .event) w (eqb-true (length (m .report)) 512 y)))
@@ -93,7 +93,7 @@ pub play-append : (h : Past) (xs ys : List Event) → play h (xs ++ ys) ≡ play
 play-append h [] ys = refl
 play-append h (x ∷ xs) ys = play-append (advance h x) xs ys
 
-pub events-append : (xs ys : List Move) → eventsIn (xs ++ ys) ≡ eventsIn xs ++ eventsIn ys
+pub events-append : (xs ys : List Call) → eventsIn (xs ++ ys) ≡ eventsIn xs ++ eventsIn ys
 events-append [] ys = refl
 events-append (m ∷ xs) ys =
     ap (λ (l : List Event). heard m ++ l) (events-append xs ys) ∙ sym (append-assoc (heard m) (eventsIn xs) (eventsIn ys))
@@ -105,12 +105,12 @@ table-step h false r o = refl
 table-step h true r Unreadable = refl
 table-step h true r (Readable e) = refl
 
-pub one-call : (h : Past) (m : Move) → Tested (h .state) → (applied (tableBytes (h .state)) m) .table ≡ tableBytes ((play h (heard m)) .state)
+pub one-call : (h : Past) (m : Call) → Tested (h .state) → (applied (tableBytes (h .state)) m) .table ≡ tableBytes ((play h (heard m)) .state)
 one-call h m w =
     ap (λ (o : Outcome). o .table) (outcome-is (h .state) m w)
     ∙ table-step h (eqb (length (m .report)) 512) (m .report) (eventOf (m .event))
 
-pub table-runs : (ms : List Move) (h : Past) → Tested (h .state) → tableBy (tableBytes (h .state)) ms ≡ tableBytes ((play h (eventsIn ms)) .state)
+pub table-runs : (ms : List Call) (h : Past) → Tested (h .state) → tableBy (tableBytes (h .state)) ms ≡ tableBytes ((play h (eventsIn ms)) .state)
 table-runs [] h w = refl
 table-runs (m ∷ ms) h w =
     let h′ = play h (heard m) in

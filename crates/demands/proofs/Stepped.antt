@@ -2,7 +2,7 @@
 use Prim.Native.Nat.{ℕ, _<_}
 use mathlib.Core.Path.{_≡_, refl, ap, sym, _∙_}
 use mathlib.Core.List.{List}
-use Rattle.laws.proofs.Records.{walked-at}
+use Rattle.laws.proofs.RecordsInLists.{walked-at}
 use Rattle.rules.specs.Bits.{noPending}
 use Rattle.rules.specs.Rulings.{State, pendingOf, ruled}
 use Rattle.rules.specs.Rules.{ruling, step}
@@ -13,19 +13,19 @@ use Rattle.rules.proofs.Attentions.{bits-after}
 use Rattle.records.specs.Numbers.{pendingFrom}
 use Rattle.records.specs.Records.{nexusSize, pendingIn}
 use Rattle.records.specs.Tables.{nexusesAt, pendingsFrom, stateOf}
-use Rattle.records.proofs.Written.{state-back-again}
+use Rattle.records.proofs.ReadBack.{state-back-again}
 use Rattle.records.proofs.GoodSays.{good-table-says}
 use Rattle.operations.specs.Operations.{Outcome, tableAfter, outcome}
 use Rattle.operations.proofs.Looked.{ruled-on}
 use Rattle.rules.specs.Types.{Bit, Event, Ruling, Keeps, Changes}
-use Rattle.demands.specs.Seen.{pendingAt}
+use Rattle.demands.specs.Seen.{pendingByte}
 use Rattle.demands.specs.Demands.{Reaches}
 
 read-after : (t : List ℕ) (l : Ruling) → Tested (ruled (stateOf t) l) → stateOf (tableAfter t (stateOf t) l) ≡ ruled (stateOf t) l
 read-after t (Keeps a) w = refl
 read-after t (Changes a c) w = state-back-again (ruled (stateOf t) (Changes a c)) (w .counted) (w .eight)
 
-pending-is : (b : List ℕ) (i : ℕ) → i < 8 → pendingOf (stateOf b) i ≡ pendingFrom (pendingAt b i)
+pending-is : (b : List ℕ) (i : ℕ) → i < 8 → pendingOf (stateOf b) i ≡ pendingFrom (pendingByte b i)
 unfolding stateOf pendingsFrom
 pending-is b i h = walked-at nexusSize pendingIn pendingsFrom (λ n l. refl) 8 i b nexusesAt noPending h
 
@@ -40,8 +40,8 @@ module _ (t r e : List ℕ) (v : Event) (reaches : Reaches t r e v) where
   -- each bit of each nexus record after a call, by the event's cause and the bit's rank
   pub bits-seen :
       (i : ℕ) (b : Bit) → i < 8
-      → isSet (pendingFrom (pendingAt ((outcome t r e) .table) i)) b
-      ≡ bitAfter (attention (stateOf t) v i) b (isSet (pendingFrom (pendingAt t i)) b)
+      → isSet (pendingFrom (pendingByte ((outcome t r e) .table) i)) b
+      ≡ bitAfter (attention (stateOf t) v i) b (isSet (pendingFrom (pendingByte t i)) b)
   bits-seen i b h =
       ap (λ p. isSet p b) (sym (pending-is ((outcome t r e) .table) i h))
       ∙ ap (λ (s : State). isSet (pendingOf s i) b) one-step

@@ -20,11 +20,11 @@ use Rattle.records.specs.Tables.{tableBytes, reportBytes}
 use Rattle.records.specs.Events.{eventOf}
 use Rattle.history.specs.History.{Past, advance, play, isDone}
 use Rattle.history.proofs.Reached.{tested-play}
-use Rattle.operations.specs.Answers.{writesReport}
+use Rattle.operations.specs.AnswerNumbers.{writesReport}
 use Rattle.operations.specs.Operations.{Outcome}
 use Rattle.rules.specs.Types.{Task, Event, Command, Completion, Management, Condition, Fate, Stays, Ends, Ended, Named, Ruling, Keeps, Changes}
 use Rattle.records.specs.declared.events.EventRead.{EventRead, the-variants.Readable, the-variants.Unreadable}
-use Rattle.demands.specs.Moves.{Move, applied, heardIf, heard, eventsIn, taskIn, expectedOn, expectedIf, expected}
+use Rattle.demands.specs.Calls.{Call, applied, heardIf, heard, eventsIn, commandTask, expectedOn, expectedIf, expected}
 use Rattle.demands.specs.Seen.{kindOf, eventName, namesFrom, listed, listedBy, found, strike, strikeAll, gained, ledgerBy}
 use Rattle.demands.proofs.Answered.{AnsweredAs, rule-answers}
 use Rattle.demands.proofs.Runs.{writes-7, outcome-is, one-call, play-append}
@@ -64,11 +64,11 @@ log-step h true r (Readable e) =
     ap (λ (l : List Named). map endedName (h .log) ++ l) (names-on (h .state) r e)
     ∙ sym (map-append endedName (h .log) (reportOf (h .state) (ruling (h .state) e)))
 
-listed-is : (s : State) (m : Move) → Tested s → listed (tableBytes s) m ≡ namesOf (expected s m)
+listed-is : (s : State) (m : Call) → Tested s → listed (tableBytes s) m ≡ namesOf (expected s m)
 listed-is s m w = ap namesOf (outcome-is s m w)
 
 pub listed-run :
-    (ms : List Move) (h : Past) → Tested (h .state)
+    (ms : List Call) (h : Past) → Tested (h .state)
     → map endedName (h .log) ++ listedBy (tableBytes (h .state)) ms ≡ map endedName ((play h (eventsIn ms)) .log)
 listed-run [] h w = append-nil (map endedName (h .log))
 listed-run (m ∷ ms) h w =
@@ -149,7 +149,7 @@ kept-as-is h e = rw (and-off (eqb (kindOf e) 1), append-nil (map taskName (h .st
 -- whom a call gains, by its bytes and as a task
 gained-is :
     (e : List ℕ) (v : Event) (d : Bool) → Reads (Readable v) e
-    → cond (eqb (kindOf e) 1 && d) (eventName e ∷ []) [] ≡ map taskName (cond d (taskIn (Readable v)) [])
+    → cond (eqb (kindOf e) 1 && d) (eventName e ∷ []) [] ≡ map taskName (cond d (commandTask (Readable v)) [])
 unfolding newTask
 gained-is e (Command c) d q =
     ap (λ (k : ℕ). cond (eqb k 1 && d) (eventName e ∷ []) []) (q .0)
@@ -188,7 +188,7 @@ found-then none f g b e = none-some b e
 found-then (some a) f g b e = let z : f a ≡ b = cc in ap g z
 
 one-ledger :
-    (h : Past) (m : Move) → Tested (h .state)
+    (h : Past) (m : Call) → Tested (h .state)
     → found (strikeAll (listed (tableBytes (h .state)) m) (map taskName (h .state .tasks)))
     (λ k. some (k ++ gained (tableBytes (h .state)) m))
     ≡ some (map taskName ((play h (heard m)) .state .tasks))
@@ -197,7 +197,7 @@ one-ledger h m w =
     (one-call-if h (fits m) (m .report) (m .event) (eventOf (m .event)) w (event-reads (m .event) (eventOf (m .event)) refl))
 
 pub ledger-run :
-    (ms : List Move) (h : Past) → Tested (h .state)
+    (ms : List Call) (h : Past) → Tested (h .state)
     → ledgerBy (tableBytes (h .state)) ms (map taskName (h .state .tasks)) ≡ some (map taskName ((play h (eventsIn ms)) .state .tasks))
 ledger-run [] h w = refl
 ledger-run (m ∷ ms) h w =

@@ -10,14 +10,14 @@ use Rattle.rules.specs.Rulings.{taskName, endedName, sameName}
 use Rattle.rules.specs.Rules.{newTask}
 use Rattle.records.specs.Numbers.{policyFrom}
 use Rattle.records.specs.Tables.{countIn}
-use Rattle.records.proofs.Written.{table-count}
+use Rattle.records.proofs.ReadBack.{table-count}
 use Rattle.history.specs.History.{Past, advance, play, after, turns}
 use Rattle.history.proofs.Reached.{tested-after}
 use Rattle.history.proofs.Wait.{waits}
 use Rattle.history.proofs.Listed.{end-is-listed}
 use Rattle.rules.specs.Types.{Event, Command, Policy, Named}
 use Rattle.records.specs.declared.events.EventRead.{the-variants.Readable}
-use Rattle.demands.specs.Moves.{Move, tableBy, heard, eventsIn, opened}
+use Rattle.demands.specs.Calls.{Call, tableBy, heard, eventsIn, opened}
 use Rattle.demands.specs.Seen.{eventName, isAccepted, listedBy, isListed, turnsBy}
 use Rattle.demands.specs.Demands.{turnsToWait, Demand3}
 use Rattle.demands.proofs.Reading.{event-reads, aca-asked}
@@ -26,29 +26,29 @@ use Rattle.demands.proofs.Entered.{Entering, accepted-enters}
 use Rattle.demands.proofs.Told.{listed-run}
 use Rattle.demands.proofs.Followed.{started-opened, table-after, after-append}
 
-module _ (p : Policy) (ms : List Move) where
+module _ (p : Policy) (ms : List Call) where
   -- the byte of the header that demand 3 speaks of
   count-after : countIn (tableBy (opened p) ms) ≡ length ((after p (eventsIn ms)) .state .tasks)
   count-after = rw (table-after p ms) (table-count ((after p (eventsIn ms)) .state) ∙ tested-after p (eventsIn ms) .counted)
 
-  turns-after : (later : List Move) → turnsBy (tableBy (opened p) ms) later ≡ turns (after p (eventsIn ms)) (eventsIn later)
+  turns-after : (later : List Call) → turnsBy (tableBy (opened p) ms) later ≡ turns (after p (eventsIn ms)) (eventsIn later)
   turns-after later = rw (table-after p ms) (turns-run later (after p (eventsIn ms)) (tested-after p (eventsIn ms)))
 
   listed-after :
-      (later : List Move)
+      (later : List Call)
       → map endedName ((after p (eventsIn ms)) .log) ++ listedBy (tableBy (opened p) ms) later
       ≡ map endedName ((play (after p (eventsIn ms)) (eventsIn later)) .log)
   listed-after later = rw (table-after p ms) (listed-run later (after p (eventsIn ms)) (tested-after p (eventsIn ms)))
 
-  after-one : (m : Move) (e : Event) → heard m ≡ e ∷ [] → after p (eventsIn (ms ++ (m ∷ []))) ≡ advance (after p (eventsIn ms)) e
+  after-one : (m : Call) (e : Event) → heard m ≡ e ∷ [] → after p (eventsIn (ms ++ (m ∷ []))) ≡ advance (after p (eventsIn ms)) e
   after-one m e q = after-append p ms (m ∷ []) ∙ ap (λ (l : List Event). play (after p (eventsIn ms)) (l ++ [])) q
 
-new-name : (m : Move) (h : Past) (x : Entering h m) → eventName (m .event) ≡ taskName (newTask (x .command))
+new-name : (m : Call) (h : Past) (x : Entering h m) → eventName (m .event) ≡ taskName (newTask (x .command))
 unfolding newTask
 new-name m h x = event-reads (m .event) (Readable (Command (x .command))) (x .read) .1
 
 waited :
-    (p : Policy) (ms : List Move) (m : Move) (later : List Move) → isAccepted (tableBy (opened p) ms) m ≡ true
+    (p : Policy) (ms : List Call) (m : Call) (later : List Call) → isAccepted (tableBy (opened p) ms) m ≡ true
     → (getD (m .event) 4 0 ≡ 4 → ⊥)
     → turnsToWait (countIn (tableBy (opened p) ms)) ≤ turnsBy (tableBy (opened p) (ms ++ (m ∷ []))) later
     → isListed (eventName (m .event)) (listedBy (tableBy (opened p) (ms ++ (m ∷ []))) later) ≡ true

@@ -5,7 +5,7 @@ use mathlib.Core.Path.{_≡_, refl}
 use mathlib.Core.List.{List, [], _∷_, _++_}
 use lib.ListN.{replicate}
 use Rattle.rules.specs.Types.{Named}
-use Rattle.rules.specs.Tasks.{named as whoseTurn}
+use Rattle.rules.specs.Tasks.{whoseTurn}
 use Rattle.rules.specs.Rulings.{fresh}
 use Rattle.rules.specs.Rules.{newTask, enter, complete, ruleFor, ruling}
 use Rattle.rules.specs.Well.{wellFormed}
@@ -13,17 +13,17 @@ use Rattle.records.specs.Events.{eventFrom, eventOf}
 use Rattle.records.specs.Tables.{countIn, tasksFrom, pendingsFrom, stateOf, nexusRecords, unusedRecords, tableBytes, reportBytes, nexusesFit, tasksFit, unusedFit, goodTable}
 use Rattle.operations.specs.Operations.{outcome, named, started}
 use Rattle.numbers.specs.Boundary.{startNumber}
-use Rattle.demands.specs.Moves.{Move, applied, tableBy}
+use Rattle.demands.specs.Calls.{Call, applied, tableBy}
 use Rattle.demands.specs.Seen.{eventName, presentIn, isAccepted, listedBy, isListed, isTurnBy, turnsBy}
 
 -- a COMMAND of nexus n with tag g, attribute a, exempt; a COMPLETION with GOOD; a piece that is too short to be an event
-abbrev command : ℕ → ℕ → ℕ → Move
+abbrev command : ℕ → ℕ → ℕ → Call
 command n g a = record { event = 0x54 ∷ 0x56 ∷ 1 ∷ n ∷ a ∷ 2 ∷ 0 ∷ g ∷ []; report = replicate 512 0xEE }
 
-abbrev completion : ℕ → ℕ → Move
+abbrev completion : ℕ → ℕ → Call
 completion n g = record { event = 0x54 ∷ 0x56 ∷ 2 ∷ n ∷ 0 ∷ 0 ∷ 0 ∷ g ∷ []; report = replicate 512 0xEE }
 
-abbrev short : Move
+abbrev short : Call
 short = record { event = 0x54 ∷ 0x56 ∷ []; report = [] }
 
 -- a buffer that start is lent, whatever stands in it
@@ -34,7 +34,7 @@ abbrev table : List ℕ
 table = (started lent 0) .table
 
 -- case K: 0.1 S, and a new HEAD OF QUEUE task before each turn; a refused call between
-abbrev fourTurns : List Move
+abbrev fourTurns : List Call
 fourTurns =
     command 1 1 1 ∷ completion 1 1
     ∷ command 1 2 1
@@ -46,7 +46,7 @@ fourTurns =
     ∷ completion 1 4
     ∷ []
 
-abbrev fifthTurn : List Move
+abbrev fifthTurn : List Call
 fifthTurn = fourTurns ++ (command 1 9 1 ∷ completion 0 1 ∷ [])
 
 abbrev waiting : List ℕ

@@ -24,7 +24,7 @@ use Rattle.operations.specs.Operations.{Outcome, outcome, naming, named, starte
 use Rattle.rules.specs.Types.{Event, Policy, Done}
 use Rattle.records.specs.declared.events.EventRead.{the-variants.Readable, the-variants.Unreadable}
 use Rattle.numbers.specs.Boundary.{answered, turnFor, startNumber}
-use Rattle.demands.specs.Moves.{Move, applied, tableBy, eventsIn, taskIn, opened, expected}
+use Rattle.demands.specs.Calls.{Call, applied, tableBy, eventsIn, commandTask, opened, expected}
 use Rattle.demands.specs.Seen.{eventName, presentIn, isAccepted, endedIn, listedBy, isListed, turnsBy, ledgerBy}
 
 -- 1 ----------------------------------------------------------------------------------------------------------------------------------------
@@ -94,31 +94,31 @@ pub record Demand2 : Type 0 where
   -- a fresh table is what start leaves where it answers 0, whatever stood there before
   pub begins : (t : List ℕ) (b : ℕ) → startNumber t b ≡ 0 → (started t b) .table ≡ opened (policyFrom b)
   -- after any calls ms, and at the next call m
-  pub table : (p : Policy) (ms : List Move) → tableBy (opened p) ms ≡ tableBytes ((after p (eventsIn ms)) .state)
-  pub names : (p : Policy) (ms : List Move)
+  pub table : (p : Policy) (ms : List Call) → tableBy (opened p) ms ≡ tableBytes ((after p (eventsIn ms)) .state)
+  pub names : (p : Policy) (ms : List Call)
       → named (tableBy (opened p) ms) ≡ naming Done (turn ((after p (eventsIn ms)) .state))
-  pub answers : (p : Policy) (ms : List Move) (m : Move)
+  pub answers : (p : Policy) (ms : List Call) (m : Call)
       → applied (tableBy (opened p) ms) m ≡ expected ((after p (eventsIn ms)) .state) m
-  pub well : (p : Policy) (ms : List Move) → GoodTable (tableBy (opened p) ms)
+  pub well : (p : Policy) (ms : List Call) → GoodTable (tableBy (opened p) ms)
   -- by serial number: the commands accepted are the COMMANDs that apply answered 0
-  pub lets-in : (p : Policy) (ms : List Move) (m : Move)
+  pub lets-in : (p : Policy) (ms : List Call) (m : Call)
       → (after p (eventsIn (ms ++ (m ∷ [])))) .roll
-      ≡ (after p (eventsIn ms)) .roll ++ cond (isAccepted (tableBy (opened p) ms) m) (taskIn (eventOf (m .event))) []
+      ≡ (after p (eventsIn ms)) .roll ++ cond (isAccepted (tableBy (opened p) ms) m) (commandTask (eventOf (m .event))) []
   -- each is in the table and has not ended, or is not in the table and has ended once; and it never comes back
-  pub once : (p : Policy) (ms : List Move) (k : ℕ) → k < length ((after p (eventsIn ms)) .roll)
+  pub once : (p : Policy) (ms : List Call) (k : ℕ) → k < length ((after p (eventsIn ms)) .roll)
       → ((inTable (after p (eventsIn ms)) k ≡ 1) × (hasEnded (after p (eventsIn ms)) k ≡ 0))
       ⊎ ((inTable (after p (eventsIn ms)) k ≡ 0) × (hasEnded (after p (eventsIn ms)) k ≡ 1))
-  pub never-back : (p : Policy) (ms later : List Move) → (more : List ℕ)
-      × ((after p (eventsIn (ms ++ later))) .ended ≡ (after p (eventsIn ms)) .ended ++ more)
+  pub never-back : (p : Policy) (ms later : List Call) → (more : List ℕ)
+      × ((after p (eventsIn (ms ++ later))) .departed ≡ (after p (eventsIn ms)) .departed ++ more)
   -- the tasks in the table's bytes are those of the commands present, and the records in all reports' bytes name those that ended, in order
-  pub in-table : (p : Policy) (ms : List Move)
+  pub in-table : (p : Policy) (ms : List Call)
       → map unstated ((stateOf (tableBy (opened p) ms)) .tasks)
       ≡ map (λ k. unstated (look ((after p (eventsIn ms)) .roll) k)) ((after p (eventsIn ms)) .present)
-  pub reported : (p : Policy) (ms : List Move)
-      → listedBy (opened p) ms ≡ map (λ k. taskName (look ((after p (eventsIn ms)) .roll) k)) ((after p (eventsIn ms)) .ended)
+  pub reported : (p : Policy) (ms : List Call)
+      → listedBy (opened p) ms ≡ map (λ k. taskName (look ((after p (eventsIn ms)) .roll) k)) ((after p (eventsIn ms)) .departed)
   -- as a port driver sees it, by bytes and answers alone: a ledger that gains the command of each COMMAND answered 0 and drops what each report
   -- lists holds at every moment just the table's tasks, oldest first, and no drop finds nobody
-  pub ledger : (t : List ℕ) (b : ℕ) (ms : List Move) → startNumber t b ≡ 0
+  pub ledger : (t : List ℕ) (b : ℕ) (ms : List Call) → startNumber t b ≡ 0
       → ledgerBy ((started t b) .table) ms [] ≡ some (presentIn (tableBy ((started t b) .table) ms))
 
 -- 3 ----------------------------------------------------------------------------------------------------------------------------------------
@@ -135,7 +135,7 @@ turnsToWait k = 5 * (k + 1)
 -- until then (demand 2, ledger) and takes no second task of that nexus and tag.
 abbrev pub Demand3 : Type 0
 Demand3 =
-    (t : List ℕ) (b : ℕ) (ms : List Move) (m : Move) (later : List Move) → startNumber t b ≡ 0
+    (t : List ℕ) (b : ℕ) (ms : List Call) (m : Call) (later : List Call) → startNumber t b ≡ 0
     → isAccepted (tableBy ((started t b) .table) ms) m ≡ true → (getD (m .event) 4 0 ≡ 4 → ⊥)
     → turnsToWait (countIn (tableBy ((started t b) .table) ms)) ≤ turnsBy (tableBy ((started t b) .table) (ms ++ (m ∷ []))) later
     → isListed (eventName (m .event)) (listedBy (tableBy ((started t b) .table) (ms ++ (m ∷ []))) later) ≡ true

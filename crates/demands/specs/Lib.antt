@@ -1,3 +1,3 @@
-pub mod Moves
+pub mod Calls
 pub mod Seen
 pub mod Demands

@@ -4,11 +4,11 @@
 --   kindOf e, eventName e  := the kind of an event record; its nexus and tag
 --   recordName r, namesFrom n l  := nexus and tag of a task or ended record; those of the first n such records of l
 --   taskAt t i, attributeAt t i  := the task record at place i of the table t, the oldest at 0; its attribute byte
---   pendingAt t i        := the pending byte of nexus i in the table t
+--   pendingByte t i        := the pending byte of nexus i in the table t
 --   presentIn t          := nexus and tag of each task of the table t, oldest first
 --   isAccepted t m       := the call brings a COMMAND, and apply answers 0
 --   listed t m, listedBy t ms  := nexus and tag of each ended record that the call reports, that the calls ms report
---   endedFrom n l, endedIn r  := how many of the first n records of l are ended records; how many the report r holds
+--   endedAmong n l, endedIn r  := how many of the first n records of l are ended records; how many the report r holds
 --   isListed k l         := the name k is among l
 --   isTurnBy t m, turnsBy t ms := the call is a turn; how many of the calls ms are
 --   isNamedBy u k        := name answered u, which names k
@@ -23,7 +23,7 @@ use mathlib.Core.Option.{Option, none, some}
 use lib.Dec.{eqb}
 use lib.ListN.{getD, take, drop}
 use Rattle.laws.specs.Lists.{one-if, any}
-use Rattle.laws.specs.Records.{recordAt}
+use Rattle.laws.specs.RecordsInLists.{recordAt}
 use Rattle.rules.specs.Types.{Named}
 use Rattle.rules.specs.Tasks.{places}
 use Rattle.rules.specs.Rulings.{sameName}
@@ -34,9 +34,9 @@ use Rattle.operations.specs.Operations.{named}
 use Rattle.numbers.specs.declared.Answered.{Answered}
 use Rattle.numbers.specs.declared.NamedTurn.{NamedTurn}
 use Rattle.numbers.specs.Boundary.{answered, turnFor}
-use Rattle.demands.specs.Moves.{Move, applied}
+use Rattle.demands.specs.Calls.{Call, applied}
 
-abbrev pub told : List ℕ → Move → Answered
+abbrev pub told : List ℕ → Call → Answered
 told t m = answered (applied t m)
 
 -- Names ------------------------------------------------------------------------------------------------------------------------------------
@@ -62,8 +62,8 @@ taskAt t i = recordAt taskSize t (tasksAt + taskSize * i)
 abbrev pub attributeAt : List ℕ → ℕ → ℕ
 attributeAt t i = getD (taskAt t i) 3 0
 
-abbrev pub pendingAt : List ℕ → ℕ → ℕ
-pendingAt t i = getD (recordAt nexusSize t (nexusesAt + nexusSize * i)) 3 0
+abbrev pub pendingByte : List ℕ → ℕ → ℕ
+pendingByte t i = getD (recordAt nexusSize t (nexusesAt + nexusSize * i)) 3 0
 
 -- "Used task records come first, oldest first."
 abbrev pub presentIn : List ℕ → List Named
@@ -74,21 +74,21 @@ isListed k l = any (sameName k) l
 
 -- Accepted, ended, turns -------------------------------------------------------------------------------------------------------------------
 
-abbrev pub isAccepted : List ℕ → Move → Bool
+abbrev pub isAccepted : List ℕ → Call → Bool
 isAccepted t m = eqb (kindOf (m .event)) 1 && eqb ((told t m) .answer) 0
 
 -- "The ended count is the number of ended records in the report"
-abbrev pub listed : List ℕ → Move → List Named
+abbrev pub listed : List ℕ → Call → List Named
 listed t m = namesFrom ((told t m) .ended) ((applied t m) .report)
 
-abbrev pub endedFrom : ℕ → List ℕ → ℕ
-endedFrom zero l = 0
-endedFrom (suc n) l = one-if (marked (take taskSize l) 0x45) + endedFrom n (drop taskSize l)
+abbrev pub endedAmong : ℕ → List ℕ → ℕ
+endedAmong zero l = 0
+endedAmong (suc n) l = one-if (marked (take taskSize l) 0x45) + endedAmong n (drop taskSize l)
 
 abbrev pub endedIn : List ℕ → ℕ
-endedIn r = endedFrom places r
+endedIn r = endedAmong places r
 
-abbrev pub listedBy : List ℕ → List Move → List Named
+abbrev pub listedBy : List ℕ → List Call → List Named
 listedBy t [] = []
 listedBy t (m ∷ ms) = listed t m ++ listedBy ((applied t m) .table) ms
 
@@ -97,11 +97,11 @@ isNamedBy u k = u .found && sameName (record { nexus = u .nexus; tag = u .tag })
 
 -- "A turn is an accepted completion of the task that the turn rule names, with no ACA in effect before it": on the table before the call the ACA
 -- byte is 0 and name names that task, and apply answers 0
-unfoldable pub isTurnBy : List ℕ → Move → Bool
+unfoldable pub isTurnBy : List ℕ → Call → Bool
 isTurnBy t m =
     eqb (getD t 5 0) 0 && eqb (kindOf (m .event)) 2 && isNamedBy (turnFor (named t)) (eventName (m .event)) && eqb ((told t m) .answer) 0
 
-abbrev pub turnsBy : List ℕ → List Move → ℕ
+abbrev pub turnsBy : List ℕ → List Call → ℕ
 turnsBy t [] = 0
 turnsBy t (m ∷ ms) = one-if (isTurnBy t m) + turnsBy ((applied t m) .table) ms
 
@@ -120,9 +120,9 @@ strikeAll [] l = some l
 strikeAll (k ∷ ks) l = found (strike k l) (strikeAll ks)
 
 -- a call drops what its report lists, and adds its command where that is accepted, as the youngest
-abbrev pub gained : List ℕ → Move → List Named
+abbrev pub gained : List ℕ → Call → List Named
 gained t m = cond (isAccepted t m) (eventName (m .event) ∷ []) []
 
-abbrev pub ledgerBy : List ℕ → List Move → List Named → Option (List Named)
+abbrev pub ledgerBy : List ℕ → List Call → List Named → Option (List Named)
 ledgerBy t [] l = some l
 ledgerBy t (m ∷ ms) l = found (strikeAll (listed t m) l) (λ r. ledgerBy ((applied t m) .table) ms (r ++ gained t m))

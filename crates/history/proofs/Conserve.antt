@@ -36,7 +36,7 @@ pub record Conserved (h : Past) : Type 0 where
 
 once-by :
     (h : Past) (fs : List Fate) (js : List Task) → Conserved h → (k : ℕ)
-    → count (eqb k) (kept fs (h .present) ++ serialsFrom (length (h .roll)) js) + count (eqb k) (h .ended ++ lost fs (h .present))
+    → count (eqb k) (kept fs (h .present) ++ serialsFrom (length (h .roll)) js) + count (eqb k) (h .departed ++ lost fs (h .present))
     ≡ one-if (ltb k (length (h .roll ++ js)))
 once-by h fs js i k =
     rw (length-append (h .roll) js)
@@ -82,17 +82,17 @@ exactly-one p es k l =
     go (suc a) b e = inl (omega arith)
 
 -- an end is never taken back
-pub ended-grows : (h : Past) (es : List Event) → (more : List ℕ) × ((play h es) .ended ≡ h .ended ++ more)
+pub ended-grows : (h : Past) (es : List Event) → (more : List ℕ) × ((play h es) .departed ≡ h .departed ++ more)
 unfolding advance
-ended-grows h [] = ([], sym (append-nil (h .ended)))
+ended-grows h [] = ([], sym (append-nil (h .departed)))
 ended-grows h (e ∷ es) =
     let r = ended-grows (advance h e) es in
     let l = lost (fatesOf (h .state) (ruling (h .state) e)) (h .present) in
-    (l ++ r .0, r .1 ∙ append-assoc (h .ended) l (r .0))
+    (l ++ r .0, r .1 ∙ append-assoc (h .departed) l (r .0))
 
 total-play :
-    (h : Past) (es : List Event) → length (h .roll) ≡ length (h .present) + length (h .ended)
-    → length ((play h es) .roll) ≡ length ((play h es) .present) + length ((play h es) .ended)
+    (h : Past) (es : List Event) → length (h .roll) ≡ length (h .present) + length (h .departed)
+    → length ((play h es) .roll) ≡ length ((play h es) .present) + length ((play h es) .departed)
 unfolding advance
 total-play h [] e = e
 total-play h (x ∷ xs) e =
@@ -103,5 +103,5 @@ total-play h (x ∷ xs) e =
 -- accepted is in the table and ended
 pub total :
     (p : Policy) (es : List Event)
-    → length ((after p es) .roll) ≡ length ((after p es) .state .tasks) + length ((after p es) .ended)
+    → length ((after p es) .roll) ≡ length ((after p es) .state .tasks) + length ((after p es) .departed)
 total p es = omega (arith, total-play (begin (fresh p)) es refl, conserved p es .aligned)

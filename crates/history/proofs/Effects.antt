@@ -11,14 +11,14 @@ use Rattle.laws.specs.Lists.{first}
 use Rattle.laws.proofs.Bools.{and-true, not-both, cases}
 use Rattle.rules.specs.Types.{Task, Finish, Good, CheckCondition, Function, AbortTask, AbortTaskSet, ClearTaskSet, ClearAca, LogicalUnitReset, Unknown, Happening, PowerOn, HardReset, NexusLoss, Event, Command, Completion, Management, Condition, Allegiance, Clear, Faulted, Header, Change, NexusAboveSeven, Ruling, Keeps, Changes}
 use Rattle.values.specs.Headers.{runAfter}
-use Rattle.rules.specs.Tasks.{isEnabled, same, named, turnOf, isNamed}
+use Rattle.rules.specs.Tasks.{isEnabled, same, whoseTurn, turnOf, isNamed}
 use Rattle.rules.specs.Rulings.{State, isClear, turn, fateOf}
 use Rattle.rules.specs.Rules.{finish, clearing, manage, happen, ruling}
 use Rattle.rules.specs.Well.{statesFit}
 use Rattle.rules.proofs.Fates.{isEnds}
 use Rattle.rules.proofs.Settled.{is-aca}
 use Rattle.rules.proofs.Held.{held-found}
-use Rattle.rules.proofs.Turns.{named-found}
+use Rattle.rules.proofs.TurnRule.{named-found}
 use Rattle.rules.proofs.Cases.{enter-cases, completion-cases, other-cases}
 use Rattle.rules.proofs.WellKept.{Tested}
 use Rattle.history.specs.History.{turnBy}
@@ -30,7 +30,7 @@ Quiet s c = (c .header .run ≡ s .header .run) ⊎ ((u : Task) → isEnds (fate
 pub record TurnOf (s : State) (c : Change) : Type 0 where
   pub clear : s .header .aca ≡ Clear
   pub task : Task
-  pub is-named : named (s .header .aca) (s .header .run) (s .tasks) ≡ some task
+  pub is-named : whoseTurn (s .header .aca) (s .header .run) (s .tasks) ≡ some task
   pub ends : isEnds (fateOf (c .sweep) task) ≡ true
   pub run : c .header .run ≡ runAfter (task .attribute) (s .header .run)
 
@@ -69,12 +69,12 @@ aca-leaves-run (Faulted f) ts n g run t c w h k = rw (is-aca (t .attribute) (hel
 
 named-is :
     (s : State) (n g : ℕ) (t : Task) → Tested s → isNamed n g (turn s) ≡ true → first (same n g) (s .tasks) ≡ some t
-    → named (s .header .aca) (s .header .run) (s .tasks) ≡ some t
-named-is s n g t w e h = go (named (s .header .aca) (s .header .run) (s .tasks)) refl e
+    → whoseTurn (s .header .aca) (s .header .run) (s .tasks) ≡ some t
+named-is s n g t w e h = go (whoseTurn (s .header .aca) (s .header .run) (s .tasks)) refl e
   where
     go :
-        (o : Option Task) → named (s .header .aca) (s .header .run) (s .tasks) ≡ o → isNamed n g (turnOf o) ≡ true
-        → named (s .header .aca) (s .header .run) (s .tasks) ≡ some t
+        (o : Option Task) → whoseTurn (s .header .aca) (s .header .run) (s .tasks) ≡ o → isNamed n g (turnOf o) ≡ true
+        → whoseTurn (s .header .aca) (s .header .run) (s .tasks) ≡ some t
     go none q z = not-both z refl
     go (some x) q z = q ∙ sym (named-found (s .header .aca) (s .header .run) n g (s .tasks) x (w .apart) q z) ∙ h
 

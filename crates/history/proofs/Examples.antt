@@ -4,7 +4,7 @@ use mathlib.Core.Bool.{true, false}
 use mathlib.Core.Path.{_≡_, refl}
 use mathlib.Core.List.{List, [], _∷_, _++_, map}
 use Rattle.rules.specs.Types.{Simple, HeadOfQueue, Ordered, Aca, Dormant, Enabled, Blocked, Event, Completion, Good, CheckCondition, EndNone, Policy, Faulted, Turn, Nothing, Names}
-use Rattle.rules.specs.Tasks.{named}
+use Rattle.rules.specs.Tasks.{whoseTurn}
 use Rattle.rules.specs.Rulings.{turn, fresh}
 use Rattle.rules.specs.Rules.{newTask, enter, complete, ruleFor, ruling, answer}
 use Rattle.rules.specs.Well.{WellFormed}
@@ -51,7 +51,7 @@ upTo6 = 0 ∷ 1 ∷ 2 ∷ 3 ∷ 4 ∷ 5 ∷ 6 ∷ []
 pub bound-met :
     (map (λ k. seenAfter (5 * k + 4) k) upTo6 ≡ map (λ k. (5 * k + 4) ∷ 1 ∷ 0 ∷ []) upTo6)
     × (map (λ k. seenAfter (5 * (k + 1)) k) upTo6 ≡ map (λ k. 5 * (k + 1) ∷ 0 ∷ 1 ∷ []) upTo6)
-unfolding named fresh newTask enter complete ruleFor ruling answer advance
+unfolding whoseTurn fresh newTask enter complete ruleFor ruling answer advance
 bound-met = (refl, refl)
 
 -- A witness --------------------------------------------------------------------------------------------------------------------------------
@@ -75,7 +75,7 @@ pub witness :
     ∷ record { nexus = 2; attribute = Ordered; state = Dormant; naca = false; tag = 1 }
     ∷ record { nexus = 0; attribute = Aca; state = Enabled; naca = false; tag = 9 }
     ∷ [])
-unfolding named fresh newTask enter complete ruleFor ruling answer advance
+unfolding whoseTurn fresh newTask enter complete ruleFor ruling answer advance
 witness = (refl, refl, refl)
 
 pub witness-well-formed : WellFormed ((after policy intoAca) .state)

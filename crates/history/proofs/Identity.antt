@@ -52,11 +52,11 @@ module _ {B : Type 0} (f : Task → B) where
 
 pub record Known (h : Past) : Type 0 where
   pub present-below : Below (length (h .roll)) (h .present)
-  pub ended-below : Below (length (h .roll)) (h .ended)
+  pub ended-below : Below (length (h .roll)) (h .departed)
   -- the table holds the tasks of the commands with the serial numbers `present`, in their order
   pub table : map unstated (h .state .tasks) ≡ map (λ k. unstated (look (h .roll) k)) (h .present)
   -- the reports name the commands with the serial numbers `ended`, in their order
-  pub reports : map endedName (h .log) ≡ map (λ k. taskName (look (h .roll) k)) (h .ended)
+  pub reports : map endedName (h .log) ≡ map (λ k. taskName (look (h .roll) k)) (h .departed)
 
 known-names : (h : Past) → Known h → map taskName (h .state .tasks) ≡ map (λ k. taskName (look (h .roll) k)) (h .present)
 known-names h i =
@@ -82,7 +82,7 @@ table-by h fs js i =
 reports-by :
     (h : Past) (fs : List Fate) (js : List Task) → Known h
     → map endedName (h .log ++ endedFrom fs (h .state .tasks))
-    ≡ map (λ k. taskName (look (h .roll ++ js) k)) (h .ended ++ lost fs (h .present))
+    ≡ map (λ k. taskName (look (h .roll ++ js) k)) (h .departed ++ lost fs (h .present))
 reports-by h fs js i =
     rw (
       map-append endedName (h .log) (endedFrom fs (h .state .tasks)),
@@ -90,10 +90,10 @@ reports-by h fs js i =
       report-names fs (h .state .tasks),
       map-lost taskName fs (h .state .tasks),
       known-names h i,
-      map-append (λ k. taskName (look (h .roll ++ js) k)) (h .ended) (lost fs (h .present)),
+      map-append (λ k. taskName (look (h .roll ++ js) k)) (h .departed) (lost fs (h .present)),
       map-lost (λ k. taskName (look (h .roll ++ js) k)) fs (h .present),
       look-more taskName (h .roll) js (h .present) (i .present-below),
-      look-more taskName (h .roll) js (h .ended) (i .ended-below),
+      look-more taskName (h .roll) js (h .departed) (i .ended-below),
     )
 
 more : (h : Past) (js : List Task) (ks : List ℕ) → Below (length (h .roll)) ks → Below (length (h .roll ++ js)) ks
@@ -110,9 +110,9 @@ present-by h fs js i =
     )
     (below-serials (length (h .roll)) js)
 
-ended-by : (h : Past) (fs : List Fate) (js : List Task) → Known h → Below (length (h .roll ++ js)) (h .ended ++ lost fs (h .present))
+ended-by : (h : Past) (fs : List Fate) (js : List Task) → Known h → Below (length (h .roll ++ js)) (h .departed ++ lost fs (h .present))
 ended-by h fs js i =
-    rw (any-append (leb (length (h .roll ++ js))) (h .ended) (lost fs (h .present)) (more h js (h .ended) (i .ended-below)))
+    rw (any-append (leb (length (h .roll ++ js))) (h .departed) (lost fs (h .present)) (more h js (h .departed) (i .ended-below)))
     (any-lost _ fs (h .present) (more h js (h .present) (i .present-below)))
 
 known-by : (h : Past) (r : Ruling) → Known h → Known (advanceBy h r)

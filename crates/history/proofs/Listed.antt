@@ -29,20 +29,20 @@ roll-more h (e ∷ es) =
 -- the names that the reports of the events es list are those of the commands that ended in them, in order
 named-since :
     (h : Past) (es : List Event) (names : List Named) → Known h → map endedName (h .log) ++ names ≡ map endedName ((play h es) .log)
-    → (more : List ℕ) × ((play h es) .ended ≡ h .ended ++ more)
+    → (more : List ℕ) × ((play h es) .departed ≡ h .departed ++ more)
     × (names ≡ map (λ k. taskName (look ((play h es) .roll) k)) more)
 named-since h es names i e =
     let r = ended-grows h es in
     let j = roll-more h es in
     let nameOf : ℕ → Named = λ k. taskName (look ((play h es) .roll) k) in
-    let old : map nameOf (h .ended) ≡ map endedName (h .log) =
-    rw (j .1) (look-more taskName (h .roll) (j .0) (h .ended) (i .ended-below)) ∙ sym (i .reports)
+    let old : map nameOf (h .departed) ≡ map endedName (h .log) =
+    rw (j .1) (look-more taskName (h .roll) (j .0) (h .departed) (i .ended-below)) ∙ sym (i .reports)
     in
     let all : map endedName (h .log) ++ names ≡ map endedName (h .log) ++ map nameOf (r .0) =
     e
     ∙ known-play h es i .reports
     ∙ ap (map nameOf) (r .1)
-    ∙ map-append nameOf (h .ended) (r .0)
+    ∙ map-append nameOf (h .departed) (r .0)
     ∙ ap (λ (l : List Named). l ++ map nameOf (r .0)) old
     in
     (r .0, r .1, append-cancel-left (map endedName (h .log)) names (map nameOf (r .0)) all)

@@ -18,7 +18,7 @@ use Rattle.rules.proofs.WellSays.{attributes}
 use Rattle.rules.proofs.Fates.{isEnds, stays-is, length-kept, count-kept-le}
 use Rattle.rules.proofs.Distinct.{blockedTask}
 use Rattle.rules.proofs.Settled.{headTask}
-use Rattle.rules.proofs.Turns.{otherTask}
+use Rattle.rules.proofs.TurnRule.{otherTask}
 use Rattle.history.specs.History.{Past, serialsFrom, advanceBy, advance, hasEnded}
 use Rattle.history.proofs.Conserve.{Conserved}
 

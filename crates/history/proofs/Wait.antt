@@ -18,7 +18,7 @@ use Rattle.rules.specs.Rules.{ruling, answer}
 use Rattle.rules.specs.Well.{settled}
 use Rattle.rules.proofs.Fates.{isEnds, count-kept-le, count-falls}
 use Rattle.rules.proofs.Settled.{headTask}
-use Rattle.rules.proofs.Turns.{otherTask, turn-cases}
+use Rattle.rules.proofs.TurnRule.{otherTask, turn-cases}
 use Rattle.rules.proofs.WellKept.{Tested}
 use Rattle.history.specs.History.{Past, advance, play, after, accepted, hasEnded, turnBy, isTurn, turns}
 use Rattle.history.proofs.Reached.{tested-advance, tested-after}

@@ -17,7 +17,7 @@ use mathlib.Core.List.{List, [], _∷_, _++_}
 use lib.Dec.{eqb}
 use lib.ListN.{length, getD}
 use Rattle.laws.specs.Lists.{one-if, count}
-use Rattle.rules.specs.Types.{Simple, Dormant, Task, Event, Command, Completion, Management, Condition, Policy, Ended, Ruling, Answer, Done, BadTable, BadReport, BadEvent, NexusAboveSeven, NoSuchTask, NotEnabled, EndedAtEntry, Rejected, BadPolicy}
+use Rattle.rules.specs.Types.{Attribute, TaskState, Task, Event, Policy, Ended, Ruling, Answer}
 use Rattle.rules.specs.Tasks.{withState, isNamed}
 use Rattle.rules.specs.Rulings.{State, isClear, turn, fresh, kept, lost, fatesOf, joinsOf, ruled, reportOf}
 use Rattle.rules.specs.Rules.{ruling, answer}
@@ -29,12 +29,12 @@ pub record Past : Type 0 where
   -- the serial numbers of the tasks in the table, in the table's order
   pub present : List ℕ
   -- the serial numbers of those that ended, in the order of their ends
-  pub ended : List ℕ
+  pub departed : List ℕ
   -- all reports, one behind the other
   pub log : List Ended
 
 abbrev pub begin : State → Past
-begin s = record { state = s; roll = []; present = []; ended = []; log = [] }
+begin s = record { state = s; roll = []; present = []; departed = []; log = [] }
 
 abbrev pub serialsFrom : ℕ → List Task → List ℕ
 serialsFrom n [] = []
@@ -47,7 +47,7 @@ advanceBy h r =
       state = ruled (h .state) r;
       roll = h .roll ++ joinsOf r;
       present = kept (fatesOf (h .state) r) (h .present) ++ serialsFrom (length (h .roll)) (joinsOf r);
-      ended = h .ended ++ lost (fatesOf (h .state) r) (h .present);
+      departed = h .departed ++ lost (fatesOf (h .state) r) (h .present);
       log = h .log ++ reportOf (h .state) r;
     }
 
@@ -62,13 +62,13 @@ abbrev pub after : Policy → List Event → Past
 after p es = play (begin (fresh p)) es
 
 abbrev pub nobody : Task
-nobody = record { nexus = 0; attribute = Simple; state = Dormant; naca = false; tag = 0 }
+nobody = record { nexus = 0; attribute = Attribute.Simple; state = TaskState.Dormant; naca = false; tag = 0 }
 
 abbrev pub look : List Task → ℕ → Task
 look roll k = getD roll k nobody
 
 abbrev pub unstated : Task → Task
-unstated t = withState t Dormant
+unstated t = withState t TaskState.Dormant
 
 abbrev pub accepted : State → Event → List Task
 accepted s e = joinsOf (ruling s e)
@@ -77,26 +77,26 @@ abbrev pub inTable : Past → ℕ → ℕ
 inTable h k = count (eqb k) (h .present)
 
 abbrev pub hasEnded : Past → ℕ → ℕ
-hasEnded h k = count (eqb k) (h .ended)
+hasEnded h k = count (eqb k) (h .departed)
 
 abbrev pub isDone : Answer → Bool
-isDone Done = true
-isDone BadTable = false
-isDone BadReport = false
-isDone BadEvent = false
-isDone NexusAboveSeven = false
-isDone NoSuchTask = false
-isDone NotEnabled = false
-isDone (EndedAtEntry st se) = false
-isDone Rejected = false
-isDone BadPolicy = false
+isDone Answer.Done = true
+isDone Answer.BadTable = false
+isDone Answer.BadReport = false
+isDone Answer.BadEvent = false
+isDone Answer.NexusAboveSeven = false
+isDone Answer.NoSuchTask = false
+isDone Answer.NotEnabled = false
+isDone (Answer.EndedAtEntry st se) = false
+isDone Answer.Rejected = false
+isDone Answer.BadPolicy = false
 
 -- "A turn is an accepted completion of the task that the turn rule names, with no ACA in effect before it." (mission, 3), by the answer it got
 abbrev pub turnBy : State → Event → Answer → Bool
-turnBy s (Command c) a = false
-turnBy s (Completion n g f) a = isClear (s .header .aca) && isNamed n g (turn s) && isDone a
-turnBy s (Management n f) a = false
-turnBy s (Condition c) a = false
+turnBy s (Event.Command c) a = false
+turnBy s (Event.Completion n g f) a = isClear (s .header .aca) && isNamed n g (turn s) && isDone a
+turnBy s (Event.Management n f) a = false
+turnBy s (Event.Condition c) a = false
 
 abbrev pub isTurn : State → Event → Bool
 isTurn s e = turnBy s e (answer s e)

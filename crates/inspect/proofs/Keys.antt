@@ -14,7 +14,7 @@ use Rattle.laws.proofs.Bools.{split}
 use Rattle.records.specs.Records.{taskSize}
 use Rattle.records.specs.Tables.{Bytes}
 use Rattle.records.proofs.Good.{bytes-drop}
-use Rattle.inspect.specs.Tests.{keysFrom, spareKey, Spared}
+use Rattle.inspect.specs.TableTest.{keysFrom, spareKey, Spared}
 
 pub keys-long : (n : ℕ) (l : List ℕ) → length (keysFrom n l) ≡ n
 unfolding keysFrom

@@ -10,15 +10,15 @@ use borrow.Author.Tests.{eq-eqb, ne-eqb, eqb-true, eqb-false}
 use lib.Dec.{eqb}
 use lib.ListN.{take, drop}
 use lib.Seq.{drop-drop}
-use Rattle.laws.specs.Records.{recordAt}
+use Rattle.laws.specs.RecordsInLists.{recordAt}
 use Rattle.laws.proofs.Bools.{split}
 use Rattle.rules.specs.Tasks.{places, nexuses}
 use Rattle.records.specs.Records.{nexusSize, taskSize, taskFrom, taskFits, nexusFits, unusedFits}
 use Rattle.records.specs.Tables.{nexusesAt, tasksAt, nexusesFit, unusedFit}
-use Rattle.decide.specs.Walks.{behindBy, fitsBy}
+use Rattle.decide.specs.OlderTasks.{behindBy, fitsBy}
 use Rattle.rules.specs.Types.{Allegiance}
 use Rattle.decide.specs.declared.states.Older.{Older}
-use Rattle.inspect.specs.Tests.{usedFit, keyOf, keysFrom}
+use Rattle.inspect.specs.TableTest.{usedFit, keyOf, keysFrom}
 
 -- what hangs on the records from the i-th on hangs on that one and those behind it
 next :

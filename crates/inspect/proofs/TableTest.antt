@@ -9,7 +9,7 @@ use lib.ListN.{length, getD, take, drop}
 use lib.Seq.{getD-drop, getD-take}
 use borrow.Author.Tests.{eqb-true, eqb-false, eq-eqb, ne-eqb, lt-ltb, le-leb, lt-leb, leb-false}
 use Rattle.laws.specs.Lists.{any, isNil}
-use Rattle.laws.specs.Records.{recordAt}
+use Rattle.laws.specs.RecordsInLists.{recordAt}
 use Rattle.laws.proofs.Bools.{and-true, or-false, split}
 use Rattle.rules.specs.Tasks.{same}
 use Rattle.rules.specs.Well.{statesFit, faultFits, distinct, tooHigh, wellFormed}
@@ -18,11 +18,11 @@ use Rattle.records.specs.Records.{headerFrom, headerFits, taskFrom, taskFits}
 use Rattle.records.specs.Tables.{Bytes, tasksFrom, stateOf, nexusesFit, tasksFit, unusedFit, goodTable}
 use Rattle.records.proofs.TaskRecords.{task-nexus-low}
 use Rattle.records.proofs.Good.{length-tasks-from, length-pendings-from, header-good, bytes-drop}
-use Rattle.decide.specs.Walks.{noOlder, behindBy, fitsBy, fitBy}
-use Rattle.decide.proofs.Walks.{fit-walk}
+use Rattle.decide.specs.OlderTasks.{noOlder, behindBy, fitsBy, fitBy}
+use Rattle.decide.proofs.OlderTasks.{fit-walk}
 use Rattle.rules.specs.Types.{Task, Allegiance}
 use Rattle.decide.specs.declared.states.Older.{Older}
-use Rattle.inspect.specs.Tests.{usedFit, keyOf, keysFrom, apart, tableTest, recordsFit}
+use Rattle.inspect.specs.TableTest.{usedFit, keyOf, keysFrom, keysApart, tableTest, recordsFit}
 
 -- Tests joined -----------------------------------------------------------------------------------------------------------------------------
 
@@ -110,8 +110,8 @@ any-key t (u ∷ us) p q =
     let o = or-false (bigTag u) (any bigTag us) q in
     rw (key-same t u p (o .0), any-key t us p (o .1))
 
-apart-keys : (ts : List Task) → any bigTag ts ≡ false → apart (map keyOf ts) ≡ distinct ts
-unfolding apart
+apart-keys : (ts : List Task) → any bigTag ts ≡ false → keysApart (map keyOf ts) ≡ distinct ts
+unfolding keysApart
 apart-keys [] q = refl
 apart-keys (t ∷ ts) q =
     let o = or-false (bigTag t) (any bigTag ts) q in
@@ -158,13 +158,13 @@ table-test-is b by =
     let aca = (headerFrom (recordAt 8 b 0)) .aca in
     let ts = tasksFrom n (drop 72 b) in
     let u = unusedFit (64 - n) (drop (72 + 8 * n) b) in
-    let names : apart (keysFrom n (drop 72 b)) ≡ distinct ts =
-    ap apart (keys-are n (drop 72 b)) ∙ apart-keys ts (tags-fit n (drop 72 b) (bytes-drop b 72 by))
+    let names : keysApart (keysFrom n (drop 72 b)) ≡ distinct ts =
+    ap keysApart (keys-are n (drop 72 b)) ∙ apart-keys ts (tags-fit n (drop 72 b) (bytes-drop b 72 by))
     in
     let used : usedFit n aca noOlder (drop 72 b) ≡ tasksFit n (drop 72 b) && statesFit aca ts =
     used-fit-is n aca noOlder (drop 72 b) ∙ ap (λ (z : Bool). tasksFit n (drop 72 b) && z) (fit-walk aca ts)
     in
-    ap (λ (z : Bool). z && (u && apart (keysFrom n (drop 72 b)))) used
+    ap (λ (z : Bool). z && (u && keysApart (keysFrom n (drop 72 b)))) used
     ∙ ap (λ (z : Bool). (tasksFit n (drop 72 b) && statesFit aca ts) && (u && z)) names
     ∙ and-assoc (tasksFit n (drop 72 b)) (statesFit aca ts) (u && distinct ts)
     ∙ and-given (tasksFit n (drop 72 b))

@@ -18,9 +18,9 @@ ghost use lib.Dec.{eqb};
 ghost use Prim.Native.Nat.{_+_, _-_, _*_, _≤_};
 ghost use lib.ListN.{length, take, drop};
 ghost use Rattle.laws.specs.Lists.{any};
-ghost use Rattle.decide.specs.Walks.{noOlder};
+ghost use Rattle.decide.specs.OlderTasks.{noOlder};
 ghost use Rattle.records.specs.Tables.{nexusesFit, unusedFit, goodTable};
-ghost use Rattle.inspect.specs.Tests.{usedFit, keysFrom, apart, Spared, recordsFit};
+ghost use Rattle.inspect.specs.TableTest.{usedFit, keysFrom, keysApart, Spared, recordsFit};
 
 // Nexus and tag as one number.
 pub type Key = u32;
@@ -103,7 +103,7 @@ fn is_among(k: Key, a: Key, b: Key, c: Key, d: Key) -> bool
 // "no two tasks share nexus and tag". Four at a time: behind the n stand keys that no task has, so that the last four may reach past it.
 fn distinct(keys: &[Key; 68], n: usize) -> bool
     requires { ⌜ (n ≤ 64) × (length (now keys) ≡ 68) × Spared (now keys) n ⌝ }
-    ensures { λ r. ⌜ r ≡ apart (take n (now (keys .entry))) ⌝ }
+    ensures { λ r. ⌜ r ≡ keysApart (take n (now (keys .entry))) ⌝ }
 {
     let mut clear = true;
     let mut i: usize = 0;
@@ -124,7 +124,7 @@ fn distinct(keys: &[Key; 68], n: usize) -> bool
 
 fn names_fit(t: &[u8], n: usize) -> bool
     requires { ⌜ (length (now t) ≡ 584) × (n ≤ 64) ⌝ }
-    ensures { λ r. ⌜ r ≡ apart (keysFrom n (drop 72 (now (t .entry)))) ⌝ }
+    ensures { λ r. ⌜ r ≡ keysApart (keysFrom n (drop 72 (now (t .entry)))) ⌝ }
 {
     let mut keys: [Key; 68] = [0x0100_0000; 68];
     note_keys(t, n, &mut keys);

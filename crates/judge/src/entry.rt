@@ -23,11 +23,11 @@ use values::Task;
 use values::TaskState;
 use values::Top;
 ghost use mathlib.Core.Path.{_≡_};
-ghost use Rattle.rules.specs.Rules.{ended, checked, newTask, accepting};
-ghost use Rattle.judge.specs.Entries.{reporting, lastChecks, checksPastAca};
+ghost use Rattle.rules.specs.Rules.{endedWith, checked, newTask, accepting};
+ghost use Rattle.judge.specs.LastChecks.{reporting, lastChecks, checksPastAca};
 
 fn ended_with(status: u8) -> Answer
-    ensures { λ r. ⌜ r ≡ ended status ⌝ }
+    ensures { λ r. ⌜ r ≡ endedWith status ⌝ }
 {
     Answer::EndedAtEntry(
         status,

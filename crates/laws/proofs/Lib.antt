@@ -1,4 +1,4 @@
 pub mod Bools
 pub mod Lists
-pub mod Records
+pub mod RecordsInLists
 pub mod Bits

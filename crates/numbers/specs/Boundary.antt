@@ -1,8 +1,8 @@
--- What the C port driver is told: document 01's numbers (operations/specs/Answers) in the layout of include/dedakhumi.h.
+-- What the C port driver is told: document 01's numbers (operations/specs/AnswerNumbers) in the layout of include/dedakhumi.h.
 --
 --   numbersOf a n    := the answer a with n ended records
 --   answered o       := what apply returns
---   turnOf a u       := the answer a with the turn u; nexus and tag are 0 where none is found
+--   turnInNumbers a u       := the answer a with the turn u; nexus and tag are 0 where none is found
 --   turnFor n        := what name returns
 --   startNumber t p  := what start returns
 --   StartsAs, AppliesAs, NamesAs   := what the three functions promise: the result, and every byte of the buffers that they are lent to write
@@ -10,7 +10,7 @@ use Prim.Native.Nat.{ℕ}
 use mathlib.Core.Path.{_≡_}
 use mathlib.Core.Bool.{true, false}
 use mathlib.Core.List.{List}
-use Rattle.operations.specs.Answers.{said}
+use Rattle.operations.specs.AnswerNumbers.{said}
 use Rattle.operations.specs.Operations.{Outcome, outcome, named, started}
 use Rattle.rules.specs.Types.{Answer, Turn, Nothing, Names}
 use Rattle.operations.specs.Types.{Naming}
@@ -30,12 +30,12 @@ numbersOf a n =
 abbrev pub answered : Outcome → Answered
 answered o = numbersOf (o .answer) (o .ended)
 
-abbrev pub turnOf : Answer → Turn → NamedTurn
-turnOf a Nothing = record { answer = (said a) .number; found = false; nexus = 0; tag = 0 }
-turnOf a (Names n) = record { answer = (said a) .number; found = true; nexus = n .nexus; tag = n .tag }
+abbrev pub turnInNumbers : Answer → Turn → NamedTurn
+turnInNumbers a Nothing = record { answer = (said a) .number; found = false; nexus = 0; tag = 0 }
+turnInNumbers a (Names n) = record { answer = (said a) .number; found = true; nexus = n .nexus; tag = n .tag }
 
 abbrev pub turnFor : Naming → NamedTurn
-turnFor n = turnOf (n .answer) (n .turn)
+turnFor n = turnInNumbers (n .answer) (n .turn)
 
 abbrev pub startNumber : List ℕ → ℕ → ℕ
 startNumber t p = (said ((started t p) .answer)) .number

@@ -2,7 +2,7 @@
 use values::Answer;
 use values::Turn;
 ghost use mathlib.Core.Path.{_≡_};
-ghost use Rattle.numbers.specs.Boundary.{numbersOf, turnOf};
+ghost use Rattle.numbers.specs.Boundary.{numbersOf, turnInNumbers};
 
 #[repr(C)]
 pub struct Answered {
@@ -60,7 +60,7 @@ pub fn in_numbers(a: Answer, ended: u8) -> Answered
 }
 
 pub fn turn_in_numbers(a: Answer, u: Turn) -> NamedTurn
-    ensures { λ r. ⌜ r ≡ turnOf a u ⌝ }
+    ensures { λ r. ⌜ r ≡ turnInNumbers a u ⌝ }
 {
     let n = in_numbers(a, 0);
     match u {

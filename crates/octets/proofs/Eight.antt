@@ -5,7 +5,7 @@ use mathlib.Core.List.{List, [], _∷_, append-assoc}
 use native.Mathlib.Omega.{arith}
 use lib.ListN.{length, getD, take, drop, length-drop}
 use lib.Seq.{getD-drop, take-all, paste}
-use Rattle.laws.specs.Records.{recordAt, putAt}
+use Rattle.laws.specs.RecordsInLists.{recordAt, putAt}
 
 abbrev pub tabled : ℕ → (ℕ → ℕ) → List ℕ
 tabled zero f = []

@@ -4,7 +4,7 @@ ghost use mathlib.Core.Path.{_≡_};
 ghost use mathlib.Core.Bool.{Bool};
 ghost use Prim.Native.Nat.{_+_, _≤_, _/_, _%_};
 ghost use lib.ListN.{length};
-ghost use Rattle.laws.specs.Records.{recordAt, putAt};
+ghost use Rattle.laws.specs.RecordsInLists.{recordAt, putAt};
 ghost use Rattle.octets.specs.Bytes.{flag, bitOf, tagFrom, marked};
 ghost use Rattle.octets.specs.Words.{halfOf, FourBytes, IsWord};
 

@@ -16,7 +16,7 @@ use Rattle.records.proofs.GoodSays.{good-table-says}
 use Rattle.rules.specs.Types.{Event, Answer, BadTable, BadReport, BadEvent, NexusAboveSeven, Rejected, Keeps}
 use Rattle.records.specs.declared.events.EventRead.{EventRead, the-variants.Readable, the-variants.Unreadable}
 use Rattle.operations.specs.Types.{Applied}
-use Rattle.operations.specs.Answers.{writesReport}
+use Rattle.operations.specs.AnswerNumbers.{writesReport}
 use Rattle.operations.specs.Operations.{Outcome, refused, carried, onEvent, outcome, AppliedAs}
 
 pub refused-as : {o : Outcome} {a : Answer} (x : Applied) (t r : List ℕ) → o ≡ refused a t r → (x .answer ≡ a) × (x .ended ≡ 0) → AppliedAs o x t r

@@ -11,26 +11,26 @@ use Rattle.rules.specs.Rulings.{fresh}
 use Rattle.records.specs.Numbers.{policyFits, policyFrom}
 use Rattle.records.specs.Tables.{tableBytes}
 use Rattle.rules.specs.Types.{Done, BadTable, BadPolicy}
-use Rattle.operations.specs.Operations.{Started, start, started}
+use Rattle.operations.specs.Operations.{Started, startedWith, started}
 
 module _ (t : List ℕ) (p : ℕ) where
-  pub no-room : (length t ≡ 584 → ⊥) → started t p ≡ start BadTable t
+  pub no-room : (length t ≡ 584 → ⊥) → started t p ≡ startedWith BadTable t
   unfolding started
   no-room n = rw (ne-eqb (length t) 584 n)
 
-  pub no-policy : length t ≡ 584 → policyFits p ≡ false → started t p ≡ start BadPolicy t
+  pub no-policy : length t ≡ 584 → policyFits p ≡ false → started t p ≡ startedWith BadPolicy t
   unfolding started
   no-policy l f = rw (eq-eqb (length t) 584 l, f)
 
-  pub begun : length t ≡ 584 → policyFits p ≡ true → started t p ≡ start Done (tableBytes (fresh (policyFrom p)))
+  pub begun : length t ≡ 584 → policyFits p ≡ true → started t p ≡ startedWith Done (tableBytes (fresh (policyFrom p)))
   unfolding started
   begun l f = rw (eq-eqb (length t) 584 l, f)
 
 -- where each answer comes from
 pub started-cases : (P : Started → Type 0) (t : List ℕ) (p : ℕ)
-    → ((length t ≡ 584 → ⊥) → P (start BadTable t))
-    → (length t ≡ 584 → policyFits p ≡ false → P (start BadPolicy t))
-    → P (start Done (tableBytes (fresh (policyFrom p))))
+    → ((length t ≡ 584 → ⊥) → P (startedWith BadTable t))
+    → (length t ≡ 584 → policyFits p ≡ false → P (startedWith BadPolicy t))
+    → P (startedWith Done (tableBytes (fresh (policyFrom p))))
     → P (started t p)
 unfolding started
 started-cases P t p room policy done =

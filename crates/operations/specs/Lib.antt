@@ -1,3 +1,3 @@
 pub mod Types
-pub mod Answers
+pub mod AnswerNumbers
 pub mod Operations

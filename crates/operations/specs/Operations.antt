@@ -3,7 +3,7 @@
 --   Outcome                := answer, ended count, and both buffers afterwards
 --   outcome t r e          := apply the event bytes e to the table t with the report buffer r
 --   named t                := name the task whose turn it is
---   Started, started t p   := start a fresh table in the buffer t under the policy byte p
+--   Started, started t p   := startedWith a fresh table in the buffer t under the policy byte p
 --   AppliedAs, StartedAs   := what a result and the buffers at exit have to be
 use Prim.Native.Nat.{ℕ}
 use mathlib.Core.Path.{_≡_}
@@ -19,7 +19,7 @@ use Rattle.records.specs.Events.{eventOf}
 use Rattle.rules.specs.Types.{Answer, Done, BadTable, BadReport, BadEvent, BadPolicy, Turn, Nothing, Ruling, Keeps, Changes}
 use Rattle.records.specs.declared.events.EventRead.{EventRead, the-variants.Readable, the-variants.Unreadable}
 use Rattle.operations.specs.Types.{Applied, Naming}
-use Rattle.operations.specs.Answers.{writesReport}
+use Rattle.operations.specs.AnswerNumbers.{writesReport}
 
 -- Apply ------------------------------------------------------------------------------------------------------------------------------------
 
@@ -77,15 +77,15 @@ pub record Started : Type 0 where
   pub answer : Answer
   pub table : List ℕ
 
-abbrev pub start : Answer → List ℕ → Started
-start a t = record { answer = a; table = t }
+abbrev pub startedWith : Answer → List ℕ → Started
+startedWith a t = record { answer = a; table = t }
 
 -- "Starting a table looks at length (1), then policy (9)"
 unfoldable pub started : List ℕ → ℕ → Started
 started t p =
     cond (eqb (length t) tableSize)
-    (cond (policyFits p) (start Done (tableBytes (fresh (policyFrom p)))) (start BadPolicy t))
-    (start BadTable t)
+    (cond (policyFits p) (startedWith Done (tableBytes (fresh (policyFrom p)))) (startedWith BadPolicy t))
+    (startedWith BadTable t)
 
 pub record StartedAs (o : Started) (a : Answer) (t : List ℕ) : Type 0 where
   pub answer : a ≡ o .answer

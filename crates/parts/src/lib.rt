@@ -17,7 +17,7 @@ ghost use lib.Dec.{leb};
 ghost use Rattle.rules.specs.Bits.{top};
 ghost use Rattle.rules.specs.Rulings.{isClear};
 ghost use Rattle.rules.specs.Rules.{sweeping, asksAca, badAttribute, attributeOf, toldWithoutTas};
-ghost use Rattle.parts.specs.Checks.{heldOff, heldStatus};
+ghost use Rattle.parts.specs.CheckTwo.{heldOff, heldStatus};
 
 pub fn asks_aca(asked: Asked) -> bool
     ensures { λ r. ⌜ r ≡ asksAca asked ⌝ }

@@ -9,7 +9,7 @@ use lib.Dec.{eqb, ltb, leb}
 use lib.ListN.{length, getD, take, drop, length-drop, take-append-drop, drop-of-length-le}
 use lib.Seq.{drop-drop, getD-drop}
 use borrow.Author.Tests.{eqb-true, eq-eqb, ltb-true, leb-true}
-use Rattle.laws.specs.Records.{recordAt, joined}
+use Rattle.laws.specs.RecordsInLists.{recordAt, joined}
 use Rattle.laws.proofs.Bools.{and-true}
 use Rattle.rules.specs.Tasks.{nexuses}
 use Rattle.rules.specs.Well.{wellFormed}

@@ -12,7 +12,7 @@ use lib.ListN.{length, getD, take, drop}
 use lib.Seq.{drop-drop}
 use borrow.Author.Tests.{eq-eqb, ltb-true, lt-ltb, le-leb, leb-false}
 use Rattle.laws.specs.Lists.{any}
-use Rattle.laws.specs.Records.{recordAt, joined}
+use Rattle.laws.specs.RecordsInLists.{recordAt, joined}
 use Rattle.laws.proofs.Bools.{and-true, or-false}
 use Rattle.rules.specs.Rulings.{State}
 use Rattle.rules.specs.Well.{WellFormed, faultFits, tooHigh}
@@ -23,7 +23,7 @@ use Rattle.records.specs.Numbers.{flag, stateNumber, stateFits, acaNumbe
 use Rattle.records.specs.Records.{headerBytes, headerFits, nexusFits, taskBytes, taskFits, unusedFits}
 use Rattle.records.specs.Tables.{Bytes, stateOf, nexusRecords, unusedRecords, taskRecords, tableBytes, GoodTable, nexusesFit, tasksFit, unusedFit, goodTable}
 use Rattle.records.proofs.Values.{attribute-fits, pending-fits}
-use Rattle.records.proofs.Written.{state-back-again, length-table, table-header, table-count, table-behind-header, table-tasks, behind-used}
+use Rattle.records.proofs.ReadBack.{state-back-again, length-table, table-header, table-count, table-behind-header, table-tasks, behind-used}
 use Rattle.records.proofs.Good.{table-tested, tested-table, table-good}
 
 -- What is written fits ---------------------------------------------------------------------------------------------------------------------

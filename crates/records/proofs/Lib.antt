@@ -1,7 +1,7 @@
 pub mod Values
-pub mod Written
+pub mod ReadBack
 pub mod Good
-pub mod Words
+pub mod WordTests
 pub mod GoodSays
 pub mod TaskRecords
 pub mod EventsSay

@@ -8,7 +8,7 @@ use lib.Dec.{ltb}
 use lib.ListN.{getD, drop}
 use lib.Seq.{drop-drop}
 use borrow.Author.Tests.{ltb-true}
-use Rattle.laws.specs.Records.{recordAt}
+use Rattle.laws.specs.RecordsInLists.{recordAt}
 use Rattle.laws.proofs.Bools.{and-true}
 use Rattle.records.specs.Numbers.{attributeFits, stateFits}
 use Rattle.records.specs.Records.{marked, taskFrom, taskFits}

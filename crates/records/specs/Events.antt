@@ -16,60 +16,60 @@ use mathlib.Core.Bool.{Bool, true, false, cond, _||_, _&&_}
 use mathlib.Core.List.{List, [], _∷_}
 use lib.Dec.{eqb, ltb}
 use lib.ListN.{length, getD}
-use Rattle.rules.specs.Types.{Asked, Known, NoneOfFour, Entry, Finish, Good, CheckCondition, Function, AbortTask, AbortTaskSet, ClearTaskSet, ClearAca, LogicalUnitReset, Unknown, Happening, PowerOn, HardReset, NexusLoss, Event, Command, Completion, Management, Condition}
-use Rattle.records.specs.Types.{EventRead, Readable, Unreadable}
+use Rattle.rules.specs.Types.{Asked, Entry, Finish, Function, Happening, Event}
+use Rattle.records.specs.Types.{EventRead}
 use Rattle.records.specs.Numbers.{flag, bitOf, tagFrom, attributeNumber, attributeFits, attributeFrom}
 use Rattle.records.specs.Records.{marked}
 
 -- Reading ----------------------------------------------------------------------------------------------------------------------------------
 
 abbrev pub readIf : Bool → Event → EventRead
-readIf true e = Readable e
-readIf false e = Unreadable
+readIf true e = EventRead.Readable e
+readIf false e = EventRead.Unreadable
 
 abbrev pub askedFrom : ℕ → Asked
-askedFrom a = cond (attributeFits a) (Known (attributeFrom a)) NoneOfFour
+askedFrom a = cond (attributeFits a) (Asked.Known (attributeFrom a)) Asked.NoneOfFour
 
 -- "1 COMMAND: first is the attribute, any byte; second has bit 0 NACA and bit 1 exempt, other bits 0."
 abbrev pub commandFrom : ℕ → ℕ → ℕ → ℕ → EventRead
 commandFrom n a b g =
-    readIf (ltb b 4) (Command (record { nexus = n; asked = askedFrom a; naca = bitOf b 1; exempt = bitOf b 2; tag = g }))
+    readIf (ltb b 4) (Event.Command (record { nexus = n; asked = askedFrom a; naca = bitOf b 1; exempt = bitOf b 2; tag = g }))
 
 abbrev pub finishFrom : ℕ → Finish
-finishFrom a = cond (eqb a 0) Good CheckCondition
+finishFrom a = cond (eqb a 0) Finish.Good Finish.CheckCondition
 
 -- "2 COMPLETION: first is 00h GOOD or 02h CHECK CONDITION; second 0."
 abbrev pub completionFrom : ℕ → ℕ → ℕ → ℕ → EventRead
-completionFrom n a b g = readIf ((eqb a 0 || eqb a 2) && eqb b 0) (Completion n g (finishFrom a))
+completionFrom n a b g = readIf ((eqb a 0 || eqb a 2) && eqb b 0) (Event.Completion n g (finishFrom a))
 
 abbrev pub functionFrom : ℕ → ℕ → Function
 functionFrom a g =
-    cond (eqb a 1) (AbortTask g)
-    (cond (eqb a 2) AbortTaskSet
-    (cond (eqb a 3) ClearTaskSet (cond (eqb a 4) ClearAca (cond (eqb a 5) LogicalUnitReset Unknown))))
+    cond (eqb a 1) (Function.AbortTask g)
+    (cond (eqb a 2) Function.AbortTaskSet
+    (cond (eqb a 3) Function.ClearTaskSet (cond (eqb a 4) Function.ClearAca (cond (eqb a 5) Function.LogicalUnitReset Function.Unknown))))
 
 -- "3 MANAGEMENT: first is 1 ABORT TASK, .., others unknown; second 0; tag 0 for functions 2 to 5."
 abbrev pub managementFrom : ℕ → ℕ → ℕ → ℕ → EventRead
-managementFrom n a b g = readIf (eqb b 0 && (ltb a 2 || ltb 5 a || eqb g 0)) (Management n (functionFrom a g))
+managementFrom n a b g = readIf (eqb b 0 && (ltb a 2 || ltb 5 a || eqb g 0)) (Event.Management n (functionFrom a g))
 
 abbrev pub happeningFrom : ℕ → ℕ → Happening
-happeningFrom n a = cond (eqb a 1) PowerOn (cond (eqb a 2) HardReset (NexusLoss n))
+happeningFrom n a = cond (eqb a 1) Happening.PowerOn (cond (eqb a 2) Happening.HardReset (Happening.NexusLoss n))
 
 -- "4 CONDITION: first is 1 power on, 2 hard reset, 3 nexus loss; second 0, tag 0; nexus 0 for power on and hard reset."
 abbrev pub conditionFrom : ℕ → ℕ → ℕ → ℕ → EventRead
 conditionFrom n a b g =
-    readIf (eqb b 0 && eqb g 0 && (eqb a 3 || (eqb n 0 && (eqb a 1 || eqb a 2)))) (Condition (happeningFrom n a))
+    readIf (eqb b 0 && eqb g 0 && (eqb a 3 || (eqb n 0 && (eqb a 1 || eqb a 2)))) (Event.Condition (happeningFrom n a))
 
 unfoldable pub eventFrom : ℕ → ℕ → ℕ → ℕ → ℕ → EventRead
 eventFrom k n a b g =
     cond (eqb k 1) (commandFrom n a b g)
-    (cond (eqb k 2) (completionFrom n a b g) (cond (eqb k 3) (managementFrom n a b g) (cond (eqb k 4) (conditionFrom n a b g) Unreadable)))
+    (cond (eqb k 2) (completionFrom n a b g) (cond (eqb k 3) (managementFrom n a b g) (cond (eqb k 4) (conditionFrom n a b g) EventRead.Unreadable)))
 
 unfoldable pub eventOf : List ℕ → EventRead
 eventOf e =
     cond (eqb (length e) 8 && marked e 0x56)
     (eventFrom (getD e 2 0) (getD e 3 0) (getD e 4 0) (getD e 5 0) (tagFrom (getD e 6 0) (getD e 7 0)))
-    Unreadable
+    EventRead.Unreadable
 
 -- Writing ----------------------------------------------------------------------------------------------------------------------------------
 
@@ -79,8 +79,8 @@ eventLine k n a b g = 0x54 ∷ 0x56 ∷ k ∷ n ∷ a ∷ b ∷ g / 256 ∷ g % 
 
 -- "first is the attribute, any byte": of one that is none of the four the event does not keep which
 abbrev pub askedNumber : ℕ → Asked → ℕ
-askedNumber a (Known t) = attributeNumber t
-askedNumber a NoneOfFour = a
+askedNumber a (Asked.Known t) = attributeNumber t
+askedNumber a Asked.NoneOfFour = a
 
 -- "second has bit 0 NACA and bit 1 exempt, other bits 0"
 abbrev pub secondNumber : Entry → ℕ
@@ -88,45 +88,45 @@ secondNumber c = flag (c .naca) + flag (c .exempt) * 2
 
 -- "first is 00h GOOD or 02h CHECK CONDITION"
 abbrev pub finishNumber : Finish → ℕ
-finishNumber Good = 0x00
-finishNumber CheckCondition = 0x02
+finishNumber Finish.Good = 0x00
+finishNumber Finish.CheckCondition = 0x02
 
 -- "first is 1 ABORT TASK, 2 ABORT TASK SET, 3 CLEAR TASK SET, 4 CLEAR ACA, 5 LOGICAL UNIT RESET, others unknown"
 abbrev pub functionNumber : ℕ → Function → ℕ
-functionNumber a (AbortTask t) = 1
-functionNumber a AbortTaskSet = 2
-functionNumber a ClearTaskSet = 3
-functionNumber a ClearAca = 4
-functionNumber a LogicalUnitReset = 5
-functionNumber a Unknown = a
+functionNumber a (Function.AbortTask t) = 1
+functionNumber a Function.AbortTaskSet = 2
+functionNumber a Function.ClearTaskSet = 3
+functionNumber a Function.ClearAca = 4
+functionNumber a Function.LogicalUnitReset = 5
+functionNumber a Function.Unknown = a
 
 -- "tag 0 for functions 2 to 5": of an unknown function the event does not keep the tag
 abbrev pub functionTag : ℕ → Function → ℕ
-functionTag g (AbortTask t) = t
-functionTag g AbortTaskSet = 0
-functionTag g ClearTaskSet = 0
-functionTag g ClearAca = 0
-functionTag g LogicalUnitReset = 0
-functionTag g Unknown = g
+functionTag g (Function.AbortTask t) = t
+functionTag g Function.AbortTaskSet = 0
+functionTag g Function.ClearTaskSet = 0
+functionTag g Function.ClearAca = 0
+functionTag g Function.LogicalUnitReset = 0
+functionTag g Function.Unknown = g
 
 -- "first is 1 power on, 2 hard reset, 3 nexus loss"
 abbrev pub happeningNumber : Happening → ℕ
-happeningNumber PowerOn = 1
-happeningNumber HardReset = 2
-happeningNumber (NexusLoss n) = 3
+happeningNumber Happening.PowerOn = 1
+happeningNumber Happening.HardReset = 2
+happeningNumber (Happening.NexusLoss n) = 3
 
 -- "nexus 0 for power on and hard reset"
 abbrev pub happeningNexus : Happening → ℕ
-happeningNexus PowerOn = 0
-happeningNexus HardReset = 0
-happeningNexus (NexusLoss n) = n
+happeningNexus Happening.PowerOn = 0
+happeningNexus Happening.HardReset = 0
+happeningNexus (Happening.NexusLoss n) = n
 
 -- "1 COMMAND: ..", "2 COMPLETION: .. second 0", "3 MANAGEMENT: .. second 0; ..", "4 CONDITION: .. second 0, tag 0; .."
 abbrev pub eventRecord : ℕ → ℕ → Event → List ℕ
-eventRecord a g (Command c) = eventLine 1 (c .nexus) (askedNumber a (c .asked)) (secondNumber c) (c .tag)
-eventRecord a g (Completion n t f) = eventLine 2 n (finishNumber f) 0 t
-eventRecord a g (Management n f) = eventLine 3 n (functionNumber a f) 0 (functionTag g f)
-eventRecord a g (Condition h) = eventLine 4 (happeningNexus h) (happeningNumber h) 0 0
+eventRecord a g (Event.Command c) = eventLine 1 (c .nexus) (askedNumber a (c .asked)) (secondNumber c) (c .tag)
+eventRecord a g (Event.Completion n t f) = eventLine 2 n (finishNumber f) 0 t
+eventRecord a g (Event.Management n f) = eventLine 3 n (functionNumber a f) 0 (functionTag g f)
+eventRecord a g (Event.Condition h) = eventLine 4 (happeningNexus h) (happeningNumber h) 0 0
 
 -- 7 is neither one of the four attributes nor a function that is known
 unfoldable pub eventBytes : Event → List ℕ
@@ -134,23 +134,23 @@ eventBytes v = eventRecord 7 0 v
 
 -- none of the four attributes
 abbrev pub SpareAttribute : ℕ → Asked → Type 0
-SpareAttribute a (Known t) = Unit {0}
-SpareAttribute a NoneOfFour = attributeFits a ≡ false
+SpareAttribute a (Asked.Known t) = Unit {0}
+SpareAttribute a Asked.NoneOfFour = attributeFits a ≡ false
 
 -- "others unknown"
 abbrev pub SpareFunction : ℕ → Function → Type 0
-SpareFunction a (AbortTask t) = Unit {0}
-SpareFunction a AbortTaskSet = Unit {0}
-SpareFunction a ClearTaskSet = Unit {0}
-SpareFunction a ClearAca = Unit {0}
-SpareFunction a LogicalUnitReset = Unit {0}
-SpareFunction a Unknown = (a ≡ 0) ⊎ (5 < a)
+SpareFunction a (Function.AbortTask t) = Unit {0}
+SpareFunction a Function.AbortTaskSet = Unit {0}
+SpareFunction a Function.ClearTaskSet = Unit {0}
+SpareFunction a Function.ClearAca = Unit {0}
+SpareFunction a Function.LogicalUnitReset = Unit {0}
+SpareFunction a Function.Unknown = (a ≡ 0) ⊎ (5 < a)
 
 abbrev pub Spare : ℕ → Event → Type 0
-Spare a (Command c) = SpareAttribute a (c .asked)
-Spare a (Completion n t f) = Unit {0}
-Spare a (Management n f) = SpareFunction a f
-Spare a (Condition h) = Unit {0}
+Spare a (Event.Command c) = SpareAttribute a (c .asked)
+Spare a (Event.Completion n t f) = Unit {0}
+Spare a (Event.Management n f) = SpareFunction a f
+Spare a (Event.Condition h) = Unit {0}
 
 -- The record of some event; "Anything else is a bad event, as is a length other than 8."
 pub record IsEvent (e : List ℕ) : Type 0 where

@@ -8,49 +8,49 @@ use Prim.Native.Nat.{ℕ, _+_, _-_, _*_, _/_, _%_}
 use mathlib.Core.Bool.{Bool, true, false, cond, _||_, _&&_, not}
 use lib.Dec.{eqb, ltb}
 pub use Rattle.octets.specs.Bytes.{flag, bitOf, tagFrom}
-use Rattle.rules.specs.Types.{Attribute, Simple, HeadOfQueue, Ordered, Aca, TaskState, Dormant, Enabled, Blocked, Qerr, EndNone, EndAll, EndNexus, Policy, Allegiance, Clear, Faulted, Pending}
+use Rattle.rules.specs.Types.{Attribute, TaskState, Qerr, Policy, Allegiance, Pending}
 
 -- "Attributes: 0 SIMPLE, 1 HEAD OF QUEUE, 2 ORDERED, 4 ACA."
 abbrev pub attributeNumber : Attribute → ℕ
-attributeNumber Simple = 0
-attributeNumber HeadOfQueue = 1
-attributeNumber Ordered = 2
-attributeNumber Aca = 4
+attributeNumber Attribute.Simple = 0
+attributeNumber Attribute.HeadOfQueue = 1
+attributeNumber Attribute.Ordered = 2
+attributeNumber Attribute.Aca = 4
 
 abbrev pub attributeFits : ℕ → Bool
 attributeFits n = eqb n 0 || eqb n 1 || eqb n 2 || eqb n 4
 
 abbrev pub attributeFrom : ℕ → Attribute
-attributeFrom n = cond (eqb n 0) Simple (cond (eqb n 1) HeadOfQueue (cond (eqb n 2) Ordered Aca))
+attributeFrom n = cond (eqb n 0) Attribute.Simple (cond (eqb n 1) Attribute.HeadOfQueue (cond (eqb n 2) Attribute.Ordered Attribute.Aca))
 
 -- "States: 1 dormant, 2 enabled, 3 blocked."
 abbrev pub stateNumber : TaskState → ℕ
-stateNumber Dormant = 1
-stateNumber Enabled = 2
-stateNumber Blocked = 3
+stateNumber TaskState.Dormant = 1
+stateNumber TaskState.Enabled = 2
+stateNumber TaskState.Blocked = 3
 
 abbrev pub stateFits : ℕ → Bool
 stateFits n = eqb n 1 || eqb n 2 || eqb n 3
 
 abbrev pub stateFrom : ℕ → TaskState
-stateFrom n = cond (eqb n 1) Dormant (cond (eqb n 2) Enabled Blocked)
+stateFrom n = cond (eqb n 1) TaskState.Dormant (cond (eqb n 2) TaskState.Enabled TaskState.Blocked)
 
 -- "ACA: 0 or 1 + faulted nexus"
 abbrev pub acaNumber : Allegiance → ℕ
-acaNumber Clear = 0
-acaNumber (Faulted f) = f + 1
+acaNumber Allegiance.Clear = 0
+acaNumber (Allegiance.Faulted f) = f + 1
 
 abbrev pub acaFrom : ℕ → Allegiance
-acaFrom n = cond (eqb n 0) Clear (Faulted (n - 1))
+acaFrom n = cond (eqb n 0) Allegiance.Clear (Allegiance.Faulted (n - 1))
 
 -- "Policy: bits 0 and 1 are QERR (00b, 01b, 11b; 10b is bad), bit 2 is TAS, the rest 0."
 abbrev pub qerrNumber : Qerr → ℕ
-qerrNumber EndNone = 0
-qerrNumber EndAll = 1
-qerrNumber EndNexus = 3
+qerrNumber Qerr.EndNone = 0
+qerrNumber Qerr.EndAll = 1
+qerrNumber Qerr.EndNexus = 3
 
 abbrev pub qerrFrom : ℕ → Qerr
-qerrFrom n = cond (eqb n 0) EndNone (cond (eqb n 1) EndAll EndNexus)
+qerrFrom n = cond (eqb n 0) Qerr.EndNone (cond (eqb n 1) Qerr.EndAll Qerr.EndNexus)
 
 abbrev pub policyNumber : Policy → ℕ
 policyNumber p = qerrNumber (p .qerr) + flag (p .tas) * 4

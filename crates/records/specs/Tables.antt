@@ -18,7 +18,7 @@ use mathlib.Core.Bool.{Bool, true, _&&_}
 use mathlib.Core.List.{List, [], _∷_, _++_}
 use lib.Dec.{eqb}
 use lib.ListN.{length, getD, take, drop, replicate}
-use Rattle.laws.specs.Records.{recordAt, joined}
+use Rattle.laws.specs.RecordsInLists.{recordAt, joined}
 use Rattle.rules.specs.Tasks.{places, nexuses}
 use Rattle.rules.specs.Rulings.{State}
 use Rattle.rules.specs.Well.{WellFormed, wellFormed}

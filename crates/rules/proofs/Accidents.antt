@@ -4,9 +4,9 @@ use mathlib.Core.Bool.{Bool, true, false}
 use mathlib.Core.Path.{_≡_, refl}
 use mathlib.Core.List.{List, [], _∷_, _++_, map}
 use Rattle.rules.specs.Types.{Attribute, Simple, HeadOfQueue, Ordered, TaskState, Dormant, Enabled, Task, Known, Event, Command, Completion, Good, CheckCondition, Management, AbortTask, AbortTaskSet, ClearTaskSet, Pending, EndNone, Clear, Ended, Turn, Names}
-use Rattle.rules.specs.Tasks.{named, turnOf}
+use Rattle.rules.specs.Tasks.{whoseTurn, turnOf}
 use Rattle.rules.specs.Rulings.{State, fresh}
-use Rattle.rules.specs.Rules.{ended, newTask, enter, complete, manage, ruleFor, ruling, step, answer, report}
+use Rattle.rules.specs.Rules.{endedWith, newTask, enter, complete, manage, ruleFor, ruling, step, answer, report}
 
 -- exempt, so that no pending bit stands in the way
 abbrev pub command : ℕ → ℕ → Attribute → Bool → Event
@@ -23,18 +23,18 @@ abbrev states : State → List TaskState
 states s = map (λ (t : Task). t .state) (s .tasks)
 
 abbrev names : ℕ → State → Turn
-names run s = turnOf (named Clear run (s .tasks))
+names run s = turnOf (whoseTurn Clear run (s .tasks))
 
 abbrev caseB : List Event
 caseB = command 0 1 Simple false ∷ command 1 1 Ordered false ∷ command 0 2 Simple false ∷ []
 
 -- case B: a younger read does not overtake the ORDERED write, while it waits or while it runs
 pub read-waits : states (from fresh00 caseB) ≡ Enabled ∷ Dormant ∷ Dormant ∷ []
-unfolding fresh named newTask enter complete ruleFor ruling step
+unfolding fresh whoseTurn newTask enter complete ruleFor ruling step
 read-waits = refl
 
 pub read-still-waits : states (from fresh00 (caseB ++ (Completion 0 1 Good ∷ []))) ≡ Enabled ∷ Dormant ∷ []
-unfolding fresh named newTask enter complete ruleFor ruling step
+unfolding fresh whoseTurn newTask enter complete ruleFor ruling step
 read-still-waits = refl
 
 abbrev caseC : List Event
@@ -42,22 +42,22 @@ caseC = command 0 1 Simple false ∷ command 1 1 HeadOfQueue false ∷ command 1
 
 -- case C: a younger HEAD OF QUEUE task leaves an enabled SIMPLE one enabled
 pub simple-stays-enabled : states (from fresh00 caseC) ≡ Enabled ∷ Enabled ∷ Enabled ∷ []
-unfolding fresh named newTask enter complete ruleFor ruling step
+unfolding fresh whoseTurn newTask enter complete ruleFor ruling step
 simple-stays-enabled = refl
 
 -- the oldest HEAD OF QUEUE task is named, and after four the SIMPLE one
 pub oldest-head-named : names 3 (from fresh00 caseC) ≡ Names (record { nexus = 1; tag = 1 })
-unfolding fresh named newTask enter complete ruleFor ruling step
+unfolding fresh whoseTurn newTask enter complete ruleFor ruling step
 oldest-head-named = refl
 
 pub simple-named-at-four : names 4 (from fresh00 caseC) ≡ Names (record { nexus = 0; tag = 1 })
-unfolding fresh named newTask enter complete ruleFor ruling step
+unfolding fresh whoseTurn newTask enter complete ruleFor ruling step
 simple-named-at-four = refl
 
 -- case D: as the ACA begins the ORDERED task stays dormant, though its older one has ended
 pub dormant-in-aca :
     states (from fresh00 (command 0 1 Simple true ∷ command 1 1 Ordered false ∷ Completion 0 1 CheckCondition ∷ [])) ≡ Dormant ∷ []
-unfolding fresh named newTask enter complete ruleFor ruling step
+unfolding fresh whoseTurn newTask enter complete ruleFor ruling step
 dormant-in-aca = refl
 
 -- CLEAR TASK SET from 0 under TAS 0: nexus 1, which lost a task, is told, and nexus 0 is not
@@ -65,7 +65,7 @@ pub causer-untold :
     map (λ (p : Pending). p .cleared)
     ((from fresh00 (command 0 1 Simple false ∷ command 1 1 Simple false ∷ Management 0 ClearTaskSet ∷ [])) .pending)
     ≡ false ∷ true ∷ false ∷ false ∷ false ∷ false ∷ false ∷ false ∷ []
-unfolding fresh named newTask enter manage ruleFor ruling step
+unfolding fresh whoseTurn newTask enter manage ruleFor ruling step
 causer-untold = refl
 
 abbrev fill : ℕ → List Event
@@ -73,8 +73,8 @@ fill zero = []
 fill (suc n) = command 0 n Simple false ∷ fill n
 
 -- case J: 64 tasks give TASK SET FULL
-pub full-at-64 : answer (from fresh00 (fill 64)) (command 1 0 Simple false) ≡ ended 0x28
-unfolding fresh named newTask enter complete ruleFor ruling step answer
+pub full-at-64 : answer (from fresh00 (fill 64)) (command 1 0 Simple false) ≡ endedWith 0x28
+unfolding fresh whoseTurn newTask enter complete ruleFor ruling step answer
 full-at-64 = refl
 
 abbrev tags : List Ended → List ℕ
@@ -85,15 +85,15 @@ twoReads = from fresh00 (command 0 1 Simple false ∷ command 0 2 Simple false �
 
 -- "in their former age order": the report of an event that ends two tasks has the older one first
 pub older-end-first : tags (report twoReads (Management 0 AbortTaskSet)) ≡ 1 ∷ 2 ∷ []
-unfolding fresh named newTask enter manage ruleFor ruling step report
+unfolding fresh whoseTurn newTask enter manage ruleFor ruling step report
 older-end-first = refl
 
 -- "every task of that nexus ends": not its twin alone
 pub overlapped-ends-nexus : tags (report twoReads (command 0 1 Simple false)) ≡ 1 ∷ 2 ∷ []
-unfolding fresh named newTask enter ruleFor ruling step report
+unfolding fresh whoseTurn newTask enter ruleFor ruling step report
 overlapped-ends-nexus = refl
 
 -- "the tasks ended by this event": no other
 pub one-end-listed : tags (report twoReads (Management 0 (AbortTask 1))) ≡ 1 ∷ []
-unfolding fresh named newTask enter manage ruleFor ruling step report
+unfolding fresh whoseTurn newTask enter manage ruleFor ruling step report
 one-end-listed = refl

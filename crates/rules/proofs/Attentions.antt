@@ -16,15 +16,15 @@ use Rattle.rules.specs.Types.{Task, Entry, Finish, Good, CheckCondition,
 use Rattle.rules.specs.Tasks.{places, acaTask, ofNexus, same, isEnabled, enabledTask, isNamed}
 use Rattle.rules.specs.Bits.{noPending, senseFor, without, afterPowerOn, afterHardReset, afterUnitReset, afterNexusLoss, afterCleared}
 use Rattle.rules.specs.Rulings.{State, pendingOf, turn, lost, fateOf, tellLosersFrom, noted, answerOf, ruled}
-use Rattle.rules.specs.Rules.{ended, checked, asksAca, onlyIf, check2, check3, check4, check5, badAttribute, accepting, decide, enter, toldWithoutTas, toldByQerr, complete, clearing, manage, happen, nexusOf, ruleFor, ruling, step, answer}
+use Rattle.rules.specs.Rules.{endedWith, checked, asksAca, onlyIf, check2, check3, check4, check5, badAttribute, accepting, firstThatRules, enter, toldWithoutTas, toldByQerr, complete, clearing, manage, happen, nexusOf, ruleFor, ruling, step, answer}
 use Rattle.rules.specs.Well.{WellFormed, distinct}
-use Rattle.rules.specs.Attentions.{rank, ranks, isSet, highest, Attention, Unmoved, Gets, Reports, bitAfter, passesAca, reaches3, reporting, reportedBy, clearedBy, accepted, endsOthers, byFunction, byHappening, caused, attention}
+use Rattle.rules.specs.Attentions.{rank, ranks, isSet, highest, Attention, Unmoved, Gets, Reports, bitAfter, passesAca, reaches3, reportsBit, reportedBy, clearedBy, completes, endsOthers, byFunction, byHappening, caused, attention}
 use Rattle.rules.proofs.Fates.{isEnds, all-end}
 use Rattle.rules.proofs.Distinct.{same-parts}
 use Rattle.rules.proofs.Cases.{enter-cases}
 use Rattle.rules.proofs.WellKept.{Tested}
 use Rattle.rules.proofs.WellSays.{says-tested}
-use Rattle.rules.proofs.Errors.{topIs, top-first, qerr-all-ends}
+use Rattle.rules.proofs.FieldErrors.{topIs, top-first, qerr-all-ends}
 
 -- By rank ----------------------------------------------------------------------------------------------------------------------------------
 
@@ -77,7 +77,7 @@ by-check2 P (Faulted f) c aca stops goes = go (eqb (c .nexus) f) (asksAca (c .as
   where
     go :
         (x y z : Bool)
-        → P (cond x (onlyIf (not (y && not z)) (Keeps (ended 0x30))) (some (Keeps (ended (cond (c .naca) 0x30 0x08))))) (x && y && not z)
+        → P (cond x (onlyIf (not (y && not z)) (Keeps (endedWith 0x30))) (some (Keeps (endedWith (cond (c .naca) 0x30 0x08))))) (x && y && not z)
     go true true true = stops _ _
     go true true false = goes
     go true false z = stops _ _
@@ -97,7 +97,7 @@ unmoved-due s i r e = record { bits = e; told = λ b u. none-reported u }
 module _ (s : State) (c : Entry) (here : c .nexus < length (s .pending)) where
   -- what the checks come to where those before 4 give os
   abbrev decided : List (Option Ruling) → Ruling
-  decided os = decide (os ++ (check4 (s .header .aca) c ∷ check5 (s .header) ∷ [])) (Changes Done (accepting (s .header) c))
+  decided os = firstThatRules (os ++ (check4 (s .header .aca) c ∷ check5 (s .header) ∷ [])) (Changes Done (accepting (s .header) c))
 
   passed-due : Due s (c .nexus) (decided []) Unmoved
   passed-due = unmoved-due s (c .nexus) (decided []) (go (badAttribute (s .header .aca) (c .asked)) (leb places (s .header .count)))
@@ -106,7 +106,7 @@ module _ (s : State) (c : Entry) (here : c .nexus < length (s .pending)) where
           (b4 b5 : Bool)
           → pendingOf
           (ruled s
-          (decide (onlyIf b4 (Keeps (checked 0x5 0x49 0x00)) ∷ onlyIf b5 (Keeps (ended 0x28)) ∷ [])
+          (firstThatRules (onlyIf b4 (Keeps (checked 0x5 0x49 0x00)) ∷ onlyIf b5 (Keeps (endedWith 0x28)) ∷ [])
           (Changes Done (accepting (s .header) c))))
           (c .nexus)
           ≡ pendingOf s (c .nexus)
@@ -119,7 +119,7 @@ module _ (s : State) (c : Entry) (here : c .nexus < length (s .pending)) where
 
   third-due :
       (exempt : Bool) (o : Option Bit)
-      → Due s (c .nexus) (decided (third exempt o ∷ [])) (cond (not exempt) (reporting o) Unmoved)
+      → Due s (c .nexus) (decided (third exempt o ∷ [])) (cond (not exempt) (reportsBit o) Unmoved)
   third-due true o = passed-due
   third-due false none = passed-due
   third-due false (some b) =
@@ -138,7 +138,7 @@ module _ (s : State) (c : Entry) (here : c .nexus < length (s .pending)) where
       (by-check2
       (λ o b.
       Due s (c .nexus) (decided (o ∷ third (c .exempt) (highest (pendingOf s (c .nexus))) ∷ []))
-      (cond (b && not (c .exempt)) (reporting (highest (pendingOf s (c .nexus)))) Unmoved))
+      (cond (b && not (c .exempt)) (reportsBit (highest (pendingOf s (c .nexus)))) Unmoved))
       (s .header .aca)
       c
       (any acaTask (s .tasks))
@@ -326,7 +326,7 @@ causing-nexus-never-told s n g b w l = (
 
     failed : caused s (Completion n g CheckCondition) n ≡ Unmoved
     failed =
-        cases (λ a. a ≡ Unmoved) (accepted s n g && endsOthers (s .header .policy .qerr)) (λ e. cleared) (λ e. refl)
+        cases (λ a. a ≡ Unmoved) (completes s n g && endsOthers (s .header .policy .qerr)) (λ e. cleared) (λ e. refl)
 
 -- what a command can bring
 abbrev Brought : State → Entry → ℕ → Attention → Type 0
@@ -348,7 +348,7 @@ brought s c i =
     (λ q. tt))
     (λ k. tt)
   where
-    go : (o : Option Bit) → i ≡ c .nexus → highest (pendingOf s i) ≡ o → Brought s c i (reporting o)
+    go : (o : Option Bit) → i ≡ c .nexus → highest (pendingOf s i) ≡ o → Brought s c i (reportsBit o)
     go none q e = tt
     go (some b) q e = (q, e)
 

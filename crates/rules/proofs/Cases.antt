@@ -12,7 +12,7 @@ use Rattle.rules.specs.Types.{Task, Entry, Finish, Function, Happening, 
 use Rattle.rules.specs.Tasks.{nexuses, isEnabled, acaTask, same, isNamed}
 use Rattle.rules.specs.Bits.{top, senseFor}
 use Rattle.rules.specs.Rulings.{State, pendingOf, turn}
-use Rattle.rules.specs.Rules.{sweeping, ended, checked, onlyIf, asksAca, check2, check3, badAttribute, accepting, decide, enter, finish, complete, manage, happen, nexusOf, ruleFor, ruling}
+use Rattle.rules.specs.Rules.{sweeping, endedWith, checked, onlyIf, asksAca, check2, check3, badAttribute, accepting, firstThatRules, enter, finish, complete, manage, happen, nexusOf, ruleFor, ruling}
 
 only-some : (P : Ruling → Type 0) (b : Bool) (r q : Ruling) → (b ≡ true → P r) → onlyIf b r ≡ some q → P q
 only-some P true r q p e = some-is P r q e (p refl)
@@ -30,7 +30,7 @@ decide-cases :
     → (b1 ≡ false → o2 ≡ none → o3 ≡ none → b4 ≡ true → P r4)
     → (b1 ≡ false → o2 ≡ none → o3 ≡ none → b4 ≡ false → b5 ≡ true → P r5)
     → (b1 ≡ false → o2 ≡ none → o3 ≡ none → b4 ≡ false → b5 ≡ false → P r)
-    → P (decide (onlyIf b1 r1 ∷ o2 ∷ o3 ∷ onlyIf b4 r4 ∷ onlyIf b5 r5 ∷ []) r)
+    → P (firstThatRules (onlyIf b1 r1 ∷ o2 ∷ o3 ∷ onlyIf b4 r4 ∷ onlyIf b5 r5 ∷ []) r)
 decide-cases P true o2 o3 b4 b5 r1 r4 r5 r f1 f2 f3 f4 f5 f = f1 refl
 decide-cases P false (some q) o3 b4 b5 r1 r4 r5 r f1 f2 f3 f4 f5 f = f2 refl q refl
 decide-cases P false none (some q) b4 b5 r1 r4 r5 r f1 f2 f3 f4 f5 f = f3 refl refl q refl
@@ -40,8 +40,8 @@ decide-cases P false none none false false r1 r4 r5 r f1 f2 f3 f4 f5 f = f refl 
 
 check2-some :
     (P : Ruling → Type 0) (a : Allegiance) (c : Entry) (aca : Bool) (q : Ruling)
-    → ((f : ℕ) → a ≡ Faulted f → eqb (c .nexus) f ≡ true → asksAca (c .asked) && not aca ≡ false → P (Keeps (ended 0x30)))
-    → ((f : ℕ) → a ≡ Faulted f → eqb (c .nexus) f ≡ false → P (Keeps (ended (cond (c .naca) 0x30 0x08))))
+    → ((f : ℕ) → a ≡ Faulted f → eqb (c .nexus) f ≡ true → asksAca (c .asked) && not aca ≡ false → P (Keeps (endedWith 0x30)))
+    → ((f : ℕ) → a ≡ Faulted f → eqb (c .nexus) f ≡ false → P (Keeps (endedWith (cond (c .naca) 0x30 0x08))))
     → check2 a c aca ≡ some q → P q
 check2-some P Clear c aca q active busy e = none-some q e
 check2-some P (Faulted f) c aca q active busy e =
@@ -67,15 +67,15 @@ pub check-cases :
     (P : Ruling → Type 0) (h : Header) (c : Entry) (here aca : Bool) (p : Pending)
     → (here ≡ true → P (Changes (checked 0xB 0x4E 0x00) (sweeping h (NexusTasks (c .nexus)))))
     → (here ≡ false → (f : ℕ) → h .aca ≡ Faulted f → eqb (c .nexus) f ≡ true → asksAca (c .asked) && not aca ≡ false
-    → P (Keeps (ended 0x30)))
-    → (here ≡ false → (f : ℕ) → h .aca ≡ Faulted f → eqb (c .nexus) f ≡ false → P (Keeps (ended (cond (c .naca) 0x30 0x08))))
+    → P (Keeps (endedWith 0x30)))
+    → (here ≡ false → (f : ℕ) → h .aca ≡ Faulted f → eqb (c .nexus) f ≡ false → P (Keeps (endedWith (cond (c .naca) 0x30 0x08))))
     → (here ≡ false → check2 (h .aca) c aca ≡ none → (b : Bit) → cond (c .exempt) NoBit (top p) ≡ Highest b
     → P
     (Changes (EndedAtEntry 0x02 (senseFor b)) (record { sweep = Nobody; joins = NoTask; header = h; notice = Reported (c .nexus) b })))
     → (here ≡ false → check2 (h .aca) c aca ≡ none → cond (c .exempt) NoBit (top p) ≡ NoBit → badAttribute (h .aca) (c .asked) ≡ true
     → P (Keeps (checked 0x5 0x49 0x00)))
     → (here ≡ false → check2 (h .aca) c aca ≡ none → cond (c .exempt) NoBit (top p) ≡ NoBit → badAttribute (h .aca) (c .asked) ≡ false
-    → leb 64 (h .count) ≡ true → P (Keeps (ended 0x28)))
+    → leb 64 (h .count) ≡ true → P (Keeps (endedWith 0x28)))
     → (here ≡ false → check2 (h .aca) c aca ≡ none → cond (c .exempt) NoBit (top p) ≡ NoBit → badAttribute (h .aca) (c .asked) ≡ false
     → leb 64 (h .count) ≡ false → P (Changes Done (accepting h c)))
     → P (enter h c here aca p)

@@ -7,10 +7,10 @@ pub mod Cases
 pub mod Policies
 pub mod WellKept
 pub mod WellSays
-pub mod Turns
+pub mod TurnRule
 pub mod Order
-pub mod Errors
+pub mod FieldErrors
 pub mod Attentions
-pub mod Entries
+pub mod CommandEntries
 pub mod Ends
 pub mod Refusals

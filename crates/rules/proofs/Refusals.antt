@@ -17,12 +17,12 @@ use Rattle.rules.specs.Rulings.{State, pendingOf, turn, answerOf}
 use Rattle.rules.specs.Rules.{asksAca, check2, badAttribute, complete, clearing, manage, happen, nexusOf, ruleFor, ruling, answer}
 use Rattle.rules.specs.Well.{WellFormed}
 use Rattle.rules.specs.Attentions.{ranks, isSet}
-use Rattle.rules.specs.Refusals.{Absent, no-such-task, Waits, not-enabled, Stopped, overlapped, other-nexus, other-attribute, aca-task-present, attention, none-of-four, aca-without-aca, full, EndsAtEntry, at-entry, EntryStatus, check-condition, busy, task-set-full, aca-active, RejectedBy, unknown-function, not-faulted}
+use Rattle.rules.specs.Refusals.{Absent, no-such-task, Waits, not-enabled, Stopped, overlapped, other-nexus, other-attribute, aca-task-present, unit-attention, none-of-four, aca-without-aca, full, EndsAtEntry, at-entry, EntryStatus, check-condition, busy, task-set-full, aca-active, RejectedBy, unknown-function, not-faulted}
 use Rattle.rules.proofs.Distinct.{distinct-first}
 use Rattle.rules.proofs.Cases.{check-cases, check2-none, ruling-low, ruling-high, rule-command, rule-completion, rule-management}
 use Rattle.rules.proofs.WellSays.{says-tested}
 use Rattle.rules.proofs.Attentions.{every-bit}
-use Rattle.rules.proofs.Errors.{topIs, top-first}
+use Rattle.rules.proofs.FieldErrors.{topIs, top-first}
 
 -- The checks, in the paper's words ---------------------------------------------------------------------------------------------------------
 
@@ -86,7 +86,7 @@ module _ (s : State) (c : Entry) where
       ne (asks-known (c .asked) (check2-none f c (any acaTask (s .tasks)) (rw a at n2) .1))
   not-stopped w n1 n2 n3 n4 n5 (aca-task-present {f} a e) =
       not-both e (check2-none f c (any acaTask (s .tasks)) (rw a at n2) .2)
-  not-stopped w n1 n2 n3 n4 n5 (attention b x e) = not-both e (no-bit (pendingOf s (c .nexus)) b (rw x at n3))
+  not-stopped w n1 n2 n3 n4 n5 (unit-attention b x e) = not-both e (no-bit (pendingOf s (c .nexus)) b (rw x at n3))
   not-stopped w n1 n2 n3 n4 n5 (none-of-four e) = not-both refl (rw e at n4)
   not-stopped w n1 n2 n3 n4 n5 (aca-without-aca e a) = not-both refl (rw (e, a) at n4)
   not-stopped w n1 n2 n3 n4 n5 (full e) = omega (arith, leb-false 64 (s .header .count) n5, w .counted)
@@ -120,7 +120,7 @@ module _ (s : State) where
       (λ n1 f a e k. (λ w. at-entry (active-stops s c f a k), no-sense aca-active))
       (λ n1 f a e.
       (λ w. at-entry (other-nexus a (eqb-false (c .nexus) f e)), no-sense (cases EntryStatus (c .naca) (λ k. aca-active) (λ k. busy))))
-      (λ n1 n2 b e. let q = bit-set (c .exempt) (pendingOf s (c .nexus)) b e in (λ w. at-entry (attention b (q .0) (q .1)), checks))
+      (λ n1 n2 b e. let q = bit-set (c .exempt) (pendingOf s (c .nexus)) b e in (λ w. at-entry (unit-attention b (q .0) (q .1)), checks))
       (λ n1 n2 n3 n4. (λ w. at-entry (bad-stops s c n4), checks))
       (λ n1 n2 n3 n4 n5. (λ w. at-entry (full-stops s c w n5), no-sense task-set-full))
       (λ n1 n2 n3 n4 n5. tt))

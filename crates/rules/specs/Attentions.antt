@@ -9,7 +9,7 @@
 --   passesAca a c aca          := check 2 lets the command c pass, by the allegiance and whether an ACA task is there
 --   reaches3 s c, reportedBy s c  := checks 1 and 2 let the command c pass; what check 3 reports to its nexus
 --   clearedBy s n i            := what nexus i gets where all tasks end for nexus n
---   accepted s n g, endsOthers q  := a completion of that nexus and tag is accepted; QERR ends tasks of other nexuses
+--   completes s n g, endsOthers q  := a completion of that nexus and tag is completes; QERR ends tasks of other nexuses
 --   byFunction s n f i, byHappening c i, caused s e i  := what reaches nexus i by a function from nexus n, by a condition, by an event
 --   attention s e i            := what the event e brings to nexus i in the state s
 use Prim.Native.Nat.{ℕ}
@@ -18,7 +18,7 @@ use mathlib.Core.List.{List, [], _∷_}
 use mathlib.Core.Option.{Option, none, some}
 use lib.Dec.{eqb, ltb}
 use Rattle.laws.specs.Lists.{any, first}
-use Rattle.rules.specs.Types.{Task, Entry, Good, CheckCondition, Function, AbortTask, AbortTaskSet, ClearTaskSet, ClearAca, LogicalUnitReset, Unknown, Happening, PowerOn, HardReset, NexusLoss, Event, Command, Completion, Management, Condition, Qerr, EndNone, EndAll, EndNexus, Allegiance, Clear, Faulted, Pending, Bit, PowerBit, HardBit, UnitBit, LossBit, ClearedBit}
+use Rattle.rules.specs.Types.{Task, Entry, Finish, Function, Happening, Event, Qerr, Allegiance, Pending, Bit}
 use Rattle.rules.specs.Tasks.{nexuses, acaTask, ofNexus, same, enabledTask}
 use Rattle.rules.specs.Rulings.{State, pendingOf}
 use Rattle.rules.specs.Rules.{asksAca, nexusOf}
@@ -27,22 +27,22 @@ use Rattle.rules.specs.Rules.{asksAca, nexusOf}
 
 -- "highest rank first: bit 0 power on; bit 1 hard reset; bit 2 logical unit reset; bit 3 I_T nexus loss; bit 4 commands cleared"
 abbrev pub rank : Bit → ℕ
-rank PowerBit = 0
-rank HardBit = 1
-rank UnitBit = 2
-rank LossBit = 3
-rank ClearedBit = 4
+rank Bit.PowerBit = 0
+rank Bit.HardBit = 1
+rank Bit.UnitBit = 2
+rank Bit.LossBit = 3
+rank Bit.ClearedBit = 4
 
 abbrev pub ranks : List Bit
-ranks = PowerBit ∷ HardBit ∷ UnitBit ∷ LossBit ∷ ClearedBit ∷ []
+ranks = Bit.PowerBit ∷ Bit.HardBit ∷ Bit.UnitBit ∷ Bit.LossBit ∷ Bit.ClearedBit ∷ []
 
 -- one bit of the five
 abbrev pub isSet : Pending → Bit → Bool
-isSet p PowerBit = p .power
-isSet p HardBit = p .hard
-isSet p UnitBit = p .unit
-isSet p LossBit = p .loss
-isSet p ClearedBit = p .cleared
+isSet p Bit.PowerBit = p .power
+isSet p Bit.HardBit = p .hard
+isSet p Bit.UnitBit = p .unit
+isSet p Bit.LossBit = p .loss
+isSet p Bit.ClearedBit = p .cleared
 
 -- "the highest rank" that is set
 abbrev pub highest : Pending → Option Bit
@@ -65,57 +65,57 @@ bitAfter (Reports a) b old = cond (eqb (rank b) (rank a)) false old
 
 -- "2. ACA in effect. Faulted nexus: attribute ACA with no ACA task present goes on"; with an ACA no other command does
 abbrev pub passesAca : Allegiance → Entry → Bool → Bool
-passesAca Clear c aca = true
-passesAca (Faulted f) c aca = eqb (c .nexus) f && asksAca (c .asked) && not aca
+passesAca Allegiance.Clear c aca = true
+passesAca (Allegiance.Faulted f) c aca = eqb (c .nexus) f && asksAca (c .asked) && not aca
 
 -- not "1. Same nexus and tag in the table", and check 2 lets it pass
 abbrev pub reaches3 : State → Entry → Bool
 reaches3 s c = not (any (same (c .nexus) (c .tag)) (s .tasks)) && passesAca (s .header .aca) c (any acaTask (s .tasks))
 
-abbrev pub reporting : Option Bit → Attention
-reporting none = Unmoved
-reporting (some b) = Reports b
+abbrev pub reportsBit : Option Bit → Attention
+reportsBit none = Unmoved
+reportsBit (some b) = Reports b
 
 -- "3. Not exempt and a pending bit set: the highest rank is reported, 02h with 6h/code, and that bit is cleared."
 abbrev pub reportedBy : State → Entry → Attention
-reportedBy s c = cond (reaches3 s c && not (c .exempt)) (reporting (highest (pendingOf s (c .nexus)))) Unmoved
+reportedBy s c = cond (reaches3 s c && not (c .exempt)) (reportsBit (highest (pendingOf s (c .nexus)))) Unmoved
 
 -- "If TAS is 0, each other nexus that lost a task so gets bit 4": where all tasks end, one that has a task has lost it
 abbrev pub clearedBy : State → ℕ → ℕ → Attention
-clearedBy s n i = cond (not (s .header .policy .tas) && not (eqb i n) && any (ofNexus i) (s .tasks)) (Gets ClearedBit) Unmoved
+clearedBy s n i = cond (not (s .header .policy .tas) && not (eqb i n) && any (ofNexus i) (s .tasks)) (Gets Bit.ClearedBit) Unmoved
 
 -- a completion is accepted: the task is there (else answer 5) and enabled (else answer 6)
-abbrev pub accepted : State → ℕ → ℕ → Bool
-accepted s n g = any (λ (t : Task). same n g t && enabledTask t) (s .tasks)
+abbrev pub completes : State → ℕ → ℕ → Bool
+completes s n g = any (λ (t : Task). same n g t && enabledTask t) (s .tasks)
 
 -- "QERR: 00b none, 01b every other task, 11b the rest of that nexus"
 abbrev pub endsOthers : Qerr → Bool
-endsOthers EndNone = false
-endsOthers EndAll = true
-endsOthers EndNexus = false
+endsOthers Qerr.EndNone = false
+endsOthers Qerr.EndAll = true
+endsOthers Qerr.EndNexus = false
 
 -- "CLEAR TASK SET ends all"; "Logical unit reset .. every nexus gets bit 2"; no other function brings a bit
 abbrev pub byFunction : State → ℕ → Function → ℕ → Attention
-byFunction s n (AbortTask g) i = Unmoved
-byFunction s n AbortTaskSet i = Unmoved
-byFunction s n ClearTaskSet i = clearedBy s n i
-byFunction s n ClearAca i = Unmoved
-byFunction s n LogicalUnitReset i = Gets UnitBit
-byFunction s n Unknown i = Unmoved
+byFunction s n (Function.AbortTask g) i = Unmoved
+byFunction s n Function.AbortTaskSet i = Unmoved
+byFunction s n Function.ClearTaskSet i = clearedBy s n i
+byFunction s n Function.ClearAca i = Unmoved
+byFunction s n Function.LogicalUnitReset i = Gets Bit.UnitBit
+byFunction s n Function.Unknown i = Unmoved
 
 -- "Hard reset likewise: bit 1 .. Power on likewise: bit 0 .. Nexus loss .. gives it bit 3"
 abbrev pub byHappening : Happening → ℕ → Attention
-byHappening PowerOn i = Gets PowerBit
-byHappening HardReset i = Gets HardBit
-byHappening (NexusLoss n) i = cond (eqb i n) (Gets LossBit) Unmoved
+byHappening Happening.PowerOn i = Gets Bit.PowerBit
+byHappening Happening.HardReset i = Gets Bit.HardBit
+byHappening (Happening.NexusLoss n) i = cond (eqb i n) (Gets Bit.LossBit) Unmoved
 
 -- GOOD ends no other task; a CHECK CONDITION reaches another nexus by QERR alone
 abbrev pub caused : State → Event → ℕ → Attention
-caused s (Command c) i = cond (eqb i (c .nexus)) (reportedBy s c) Unmoved
-caused s (Completion n g Good) i = Unmoved
-caused s (Completion n g CheckCondition) i = cond (accepted s n g && endsOthers (s .header .policy .qerr)) (clearedBy s n i) Unmoved
-caused s (Management n f) i = byFunction s n f i
-caused s (Condition c) i = byHappening c i
+caused s (Event.Command c) i = cond (eqb i (c .nexus)) (reportedBy s c) Unmoved
+caused s (Event.Completion n g Finish.Good) i = Unmoved
+caused s (Event.Completion n g Finish.CheckCondition) i = cond (completes s n g && endsOthers (s .header .policy .qerr)) (clearedBy s n i) Unmoved
+caused s (Event.Management n f) i = byFunction s n f i
+caused s (Event.Condition c) i = byHappening c i
 
 -- answer 4, "nexus above 7": table "same"
 unfoldable pub attention : State → Event → ℕ → Attention

@@ -34,7 +34,7 @@ pub data Stopped (s : State) (c : Entry) : Type 0 where
   other-attribute : {f : ℕ} → s .header .aca ≡ Faulted f → (c .asked ≡ Known Aca → ⊥) → Stopped s c
   aca-task-present : {f : ℕ} → s .header .aca ≡ Faulted f → any acaTask (s .tasks) ≡ true → Stopped s c
   -- "3. Not exempt and a pending bit set"
-  attention : (b : Bit) → c .exempt ≡ false → isSet (pendingOf s (c .nexus)) b ≡ true → Stopped s c
+  unit-attention : (b : Bit) → c .exempt ≡ false → isSet (pendingOf s (c .nexus)) b ≡ true → Stopped s c
   -- "4. Attribute not 0, 1, 2, 4, or 4 without ACA"
   none-of-four : c .asked ≡ NoneOfFour → Stopped s c
   aca-without-aca : c .asked ≡ Known Aca → s .header .aca ≡ Clear → Stopped s c

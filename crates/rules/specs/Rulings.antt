@@ -20,8 +20,8 @@ use lib.Dec.{eqb}
 use lib.ListN.{length, getD, set, replicate}
 use Rattle.laws.specs.Lists.{any}
 use Rattle.values.specs.Headers.{withCount}
-use Rattle.rules.specs.Types.{Task, Policy, Qerr, EndNone, EndAll, EndNexus, Allegiance, Clear, Faulted, Header, Pending, Named, Turn, Fate, Stays, Ends, Ended, Sweep, Nobody, OneTask, NexusTasks, AcaTask, AllTasks, ClearedBy, FailedTask, Notice, Quiet, Reported, OthersLost, NexusLost, UnitWasReset, HardWasReset, PowerCameOn, Joins, NoTask, NewTask, Change, Answer, Ruling, Keeps, Changes}
-use Rattle.rules.specs.Tasks.{nexuses, acaTask, ofNexus, same, restate, named, turnOf}
+use Rattle.rules.specs.Types.{Task, Policy, Qerr, Allegiance, Header, Pending, Named, Turn, Fate, Ended, Sweep, Notice, Joins, Change, Answer, Ruling}
+use Rattle.rules.specs.Tasks.{nexuses, acaTask, ofNexus, same, restate, whoseTurn, turnOf}
 use Rattle.rules.specs.Bits.{noPending, without, afterPowerOn, afterHardReset, afterUnitReset, afterNexusLoss, afterCleared}
 
 pub record State : Type 0 where
@@ -30,74 +30,74 @@ pub record State : Type 0 where
   pub tasks : List Task
 
 abbrev pub isClear : Allegiance → Bool
-isClear Clear = true
-isClear (Faulted n) = false
+isClear Allegiance.Clear = true
+isClear (Allegiance.Faulted n) = false
 
 abbrev pub pendingOf : State → ℕ → Pending
 pendingOf s n = getD (s .pending) n noPending
 
 abbrev pub turn : State → Turn
-turn s = turnOf (named (s .header .aca) (s .header .run) (s .tasks))
+turn s = turnOf (whoseTurn (s .header .aca) (s .header .run) (s .tasks))
 
 -- "A fresh table equals the state after power on."
 unfoldable pub fresh : Policy → State
 fresh p =
     record {
-      header = record { policy = p; count = 0; aca = Clear; run = 0 };
+      header = record { policy = p; count = 0; aca = Allegiance.Clear; run = 0 };
       pending = replicate nexuses (afterPowerOn noPending);
       tasks = [];
     }
 
 -- Who ends.
 abbrev pub endIf : Bool → ℕ → Fate
-endIf true st = Ends st
-endIf false st = Stays
+endIf true st = Fate.Ends st
+endIf false st = Fate.Stays
 
 -- one for which there is no fate stays
 module _ {A : Type 0} where
   abbrev pub kept : List Fate → List A → List A
   kept [] xs = xs
   kept (f ∷ fs) [] = []
-  kept (Stays ∷ fs) (x ∷ xs) = x ∷ kept fs xs
-  kept (Ends st ∷ fs) (x ∷ xs) = kept fs xs
+  kept (Fate.Stays ∷ fs) (x ∷ xs) = x ∷ kept fs xs
+  kept (Fate.Ends st ∷ fs) (x ∷ xs) = kept fs xs
 
   abbrev pub lost : List Fate → List A → List A
   lost [] xs = []
   lost (f ∷ fs) [] = []
-  lost (Stays ∷ fs) (x ∷ xs) = lost fs xs
-  lost (Ends st ∷ fs) (x ∷ xs) = x ∷ lost fs xs
+  lost (Fate.Stays ∷ fs) (x ∷ xs) = lost fs xs
+  lost (Fate.Ends st ∷ fs) (x ∷ xs) = x ∷ lost fs xs
 
 -- "Aborted tasks end with FFh, with one exception: by CLEAR TASK SET or QERR, tasks of a nexus other than the causing one get TASK ABORTED 40h
 -- if TAS is 1."
 abbrev pub abortedBy : Policy → ℕ → Task → Fate
-abortedBy p n t = Ends (cond (not (ofNexus n t) && p .tas) 0x40 0xFF)
+abortedBy p n t = Fate.Ends (cond (not (ofNexus n t) && p .tas) 0x40 0xFF)
 
 -- "QERR: 00b none, 01b every other task, 11b the rest of that nexus"
 abbrev pub fateByQerr : Qerr → Policy → ℕ → Task → Fate
-fateByQerr EndNone p n t = Stays
-fateByQerr EndAll p n t = abortedBy p n t
-fateByQerr EndNexus p n t = endIf (ofNexus n t) 0xFF
+fateByQerr Qerr.EndNone p n t = Fate.Stays
+fateByQerr Qerr.EndAll p n t = abortedBy p n t
+fateByQerr Qerr.EndNexus p n t = endIf (ofNexus n t) 0xFF
 
 abbrev pub fateOf : Sweep → Task → Fate
-fateOf Nobody t = Stays
-fateOf (OneTask n g st) t = endIf (same n g t) st
-fateOf (NexusTasks n) t = endIf (ofNexus n t) 0xFF
-fateOf AcaTask t = endIf (acaTask t) 0xFF
-fateOf AllTasks t = Ends 0xFF
-fateOf (ClearedBy n p) t = abortedBy p n t
-fateOf (FailedTask n g p) t = cond (same n g t) (Ends 0x02) (fateByQerr (p .qerr) p n t)
+fateOf Sweep.Nobody t = Fate.Stays
+fateOf (Sweep.OneTask n g st) t = endIf (same n g t) st
+fateOf (Sweep.NexusTasks n) t = endIf (ofNexus n t) 0xFF
+fateOf Sweep.AcaTask t = endIf (acaTask t) 0xFF
+fateOf Sweep.AllTasks t = Fate.Ends 0xFF
+fateOf (Sweep.ClearedBy n p) t = abortedBy p n t
+fateOf (Sweep.FailedTask n g p) t = cond (same n g t) (Fate.Ends 0x02) (fateByQerr (p .qerr) p n t)
 
 abbrev pub fatesOf : State → Ruling → List Fate
-fatesOf s (Keeps a) = []
-fatesOf s (Changes a c) = map (fateOf (c .sweep)) (s .tasks)
+fatesOf s (Ruling.Keeps a) = []
+fatesOf s (Ruling.Changes a c) = map (fateOf (c .sweep)) (s .tasks)
 
 abbrev pub newcomers : Joins → List Task
-newcomers NoTask = []
-newcomers (NewTask t) = t ∷ []
+newcomers Joins.NoTask = []
+newcomers (Joins.NewTask t) = t ∷ []
 
 abbrev pub joinsOf : Ruling → List Task
-joinsOf (Keeps a) = []
-joinsOf (Changes a c) = newcomers (c .joins)
+joinsOf (Ruling.Keeps a) = []
+joinsOf (Ruling.Changes a c) = newcomers (c .joins)
 
 -- Who is told.
 -- "If TAS is 0, each other nexus that lost a task so gets bit 4."
@@ -107,18 +107,18 @@ tellLosersFrom i n ls (p ∷ ps) =
     cond (not (eqb i n) && any (ofNexus i) ls) (afterCleared p) p ∷ tellLosersFrom (suc i) n ls ps
 
 abbrev pub noted : Notice → List Task → List Pending → List Pending
-noted Quiet ls ps = ps
-noted (Reported n b) ls ps = set ps n (without b (getD ps n noPending))
-noted (OthersLost n) ls ps = tellLosersFrom 0 n ls ps
-noted (NexusLost n) ls ps = set ps n (afterNexusLoss (getD ps n noPending))
-noted UnitWasReset ls ps = map afterUnitReset ps
-noted HardWasReset ls ps = map afterHardReset ps
-noted PowerCameOn ls ps = map afterPowerOn ps
+noted Notice.Quiet ls ps = ps
+noted (Notice.Reported n b) ls ps = set ps n (without b (getD ps n noPending))
+noted (Notice.OthersLost n) ls ps = tellLosersFrom 0 n ls ps
+noted (Notice.NexusLost n) ls ps = set ps n (afterNexusLoss (getD ps n noPending))
+noted Notice.UnitWasReset ls ps = map afterUnitReset ps
+noted Notice.HardWasReset ls ps = map afterHardReset ps
+noted Notice.PowerCameOn ls ps = map afterPowerOn ps
 
 -- What comes out.
 abbrev pub answerOf : Ruling → Answer
-answerOf (Keeps a) = a
-answerOf (Changes a c) = a
+answerOf (Ruling.Keeps a) = a
+answerOf (Ruling.Changes a c) = a
 
 -- those that stay, and the new one as the youngest, with their states brought up to date
 abbrev pub tasksAfter : State → Change → List Task
@@ -126,8 +126,8 @@ tasksAfter s c =
     restate (s .header .aca) (c .header .aca) (kept (map (fateOf (c .sweep)) (s .tasks)) (s .tasks) ++ newcomers (c .joins))
 
 abbrev pub ruled : State → Ruling → State
-ruled s (Keeps a) = s
-ruled s (Changes a c) =
+ruled s (Ruling.Keeps a) = s
+ruled s (Ruling.Changes a c) =
     record {
       header = withCount (c .header) (length (tasksAfter s c));
       pending = noted (c .notice) (lost (map (fateOf (c .sweep)) (s .tasks)) (s .tasks)) (s .pending);
@@ -137,8 +137,8 @@ ruled s (Changes a c) =
 abbrev pub endedFrom : List Fate → List Task → List Ended
 endedFrom [] ts = []
 endedFrom (f ∷ fs) [] = []
-endedFrom (Stays ∷ fs) (t ∷ ts) = endedFrom fs ts
-endedFrom (Ends st ∷ fs) (t ∷ ts) = record { nexus = t .nexus; status = st; tag = t .tag } ∷ endedFrom fs ts
+endedFrom (Fate.Stays ∷ fs) (t ∷ ts) = endedFrom fs ts
+endedFrom (Fate.Ends st ∷ fs) (t ∷ ts) = record { nexus = t .nexus; status = st; tag = t .tag } ∷ endedFrom fs ts
 
 -- "the tasks ended by this event in their former age order"
 abbrev pub reportOf : State → Ruling → List Ended

@@ -11,7 +11,7 @@
 --   holdsBack a o, eligible older a   := an older task of attribute o holds one of attribute a back; no older task does
 --   settleFrom older ts         := every eligible task of ts enabled, every other dormant, behind tasks of the attributes older
 --   restate a b ts              := the states after an event, by the allegiance before it and after it
---   named aca run ts            := the task that the turn rule names, or none
+--   whoseTurn aca run ts            := the task that the turn rule names, or none
 --   turnOf o, isNamed n g turn  := its name; whether that is the name of the task of nexus n and tag g
 use Prim.Native.Nat.{ℕ}
 use mathlib.Core.Bool.{Bool, true, false, cond, _||_, _&&_, not}
@@ -20,7 +20,7 @@ use mathlib.Core.Option.{Option, none, some}
 use lib.Dec.{eqb, ltb}
 use Rattle.laws.specs.Lists.{any, first}
 use Rattle.values.specs.Headers.{mostRun}
-use Rattle.rules.specs.Types.{Attribute, Simple, HeadOfQueue, Ordered, Aca, TaskState, Dormant, Enabled, Blocked, Task, Allegiance, Clear, Faulted, Turn, Nothing, Names}
+use Rattle.rules.specs.Types.{Attribute, TaskState, Task, Allegiance, Turn}
 
 abbrev pub places : ℕ
 places = 64
@@ -29,27 +29,27 @@ abbrev pub nexuses : ℕ
 nexuses = 8
 
 abbrev pub isHead : Attribute → Bool
-isHead Simple = false
-isHead HeadOfQueue = true
-isHead Ordered = false
-isHead Aca = false
+isHead Attribute.Simple = false
+isHead Attribute.HeadOfQueue = true
+isHead Attribute.Ordered = false
+isHead Attribute.Aca = false
 
 abbrev pub isPlain : Attribute → Bool
-isPlain Simple = true
-isPlain HeadOfQueue = false
-isPlain Ordered = true
-isPlain Aca = false
+isPlain Attribute.Simple = true
+isPlain Attribute.HeadOfQueue = false
+isPlain Attribute.Ordered = true
+isPlain Attribute.Aca = false
 
 abbrev pub isAca : Attribute → Bool
-isAca Simple = false
-isAca HeadOfQueue = false
-isAca Ordered = false
-isAca Aca = true
+isAca Attribute.Simple = false
+isAca Attribute.HeadOfQueue = false
+isAca Attribute.Ordered = false
+isAca Attribute.Aca = true
 
 abbrev pub isEnabled : TaskState → Bool
-isEnabled Dormant = false
-isEnabled Enabled = true
-isEnabled Blocked = false
+isEnabled TaskState.Dormant = false
+isEnabled TaskState.Enabled = true
+isEnabled TaskState.Blocked = false
 
 abbrev pub acaTask : Task → Bool
 acaTask t = isAca (t .attribute)
@@ -65,21 +65,21 @@ withState t st = record { nexus = t .nexus; attribute = t .attribute; state = st
 
 -- "HEAD OF QUEUE always; SIMPLE if no older task in the table is HEAD OF QUEUE or ORDERED; ORDERED if no older task is there." (Of an ACA task it is asked nowhere.)
 abbrev pub holdsBack : Attribute → Attribute → Bool
-holdsBack HeadOfQueue o = false
-holdsBack Simple Simple = false
-holdsBack Simple HeadOfQueue = true
-holdsBack Simple Ordered = true
-holdsBack Simple Aca = false
-holdsBack Ordered o = true
-holdsBack Aca o = false
+holdsBack Attribute.HeadOfQueue o = false
+holdsBack Attribute.Simple Attribute.Simple = false
+holdsBack Attribute.Simple Attribute.HeadOfQueue = true
+holdsBack Attribute.Simple Attribute.Ordered = true
+holdsBack Attribute.Simple Attribute.Aca = false
+holdsBack Attribute.Ordered o = true
+holdsBack Attribute.Aca o = false
 
 -- of the older tasks only the attributes count, and not their order
 abbrev pub eligible : List Attribute → Attribute → Bool
 eligible older a = not (any (holdsBack a) older)
 
 abbrev pub enabledIf : Bool → TaskState
-enabledIf true = Enabled
-enabledIf false = Dormant
+enabledIf true = TaskState.Enabled
+enabledIf false = TaskState.Dormant
 
 -- from oldest to youngest
 abbrev pub settleFrom : List Attribute → List Task → List Task
@@ -88,16 +88,16 @@ settleFrom older (t ∷ ts) =
     withState t (enabledIf (eligible older (t .attribute))) ∷ settleFrom (t .attribute ∷ older) ts
 
 abbrev pub blockedIfEnabled : TaskState → TaskState
-blockedIfEnabled Dormant = Dormant
-blockedIfEnabled Enabled = Blocked
-blockedIfEnabled Blocked = Blocked
+blockedIfEnabled TaskState.Dormant = TaskState.Dormant
+blockedIfEnabled TaskState.Enabled = TaskState.Blocked
+blockedIfEnabled TaskState.Blocked = TaskState.Blocked
 
 -- "When ACA begins, enabled tasks become blocked; dormant ones stay so, even if they become eligible. After any event that ends without ACA,
 -- every eligible task is enabled."
 abbrev pub restate : Allegiance → Allegiance → List Task → List Task
-restate before Clear ts = settleFrom [] ts
-restate Clear (Faulted n) ts = map (λ (t : Task). withState t (blockedIfEnabled (t .state))) ts
-restate (Faulted m) (Faulted n) ts = ts
+restate before Allegiance.Clear ts = settleFrom [] ts
+restate Allegiance.Clear (Allegiance.Faulted n) ts = map (λ (t : Task). withState t (blockedIfEnabled (t .state))) ts
+restate (Allegiance.Faulted m) (Allegiance.Faulted n) ts = ts
 
 -- The turn rule.
 abbrev pub enabledTask : Task → Bool
@@ -111,15 +111,15 @@ enabledPlain t = isPlain (t .attribute) && isEnabled (t .state)
 
 -- "With ACA: the ACA task, else nothing. Without: if an enabled HEAD OF QUEUE task exists, and run is below 4 or no SIMPLE or ORDERED task
 -- is enabled, the oldest such HEAD OF QUEUE task; else the oldest enabled task, else nothing."
-unfoldable pub named : Allegiance → ℕ → List Task → Option Task
-named (Faulted n) run ts = first acaTask ts
-named Clear run ts =
+unfoldable pub whoseTurn : Allegiance → ℕ → List Task → Option Task
+whoseTurn (Allegiance.Faulted n) run ts = first acaTask ts
+whoseTurn Allegiance.Clear run ts =
     cond (any enabledHead ts && (ltb run mostRun || not (any enabledPlain ts))) (first enabledHead ts) (first enabledTask ts)
 
 abbrev pub turnOf : Option Task → Turn
-turnOf none = Nothing
-turnOf (some t) = Names (record { nexus = t .nexus; tag = t .tag })
+turnOf none = Turn.Nothing
+turnOf (some t) = Turn.Names (record { nexus = t .nexus; tag = t .tag })
 
 abbrev pub isNamed : ℕ → ℕ → Turn → Bool
-isNamed n g Nothing = false
-isNamed n g (Names t) = eqb (t .nexus) n && eqb (t .tag) g
+isNamed n g Turn.Nothing = false
+isNamed n g (Turn.Names t) = eqb (t .nexus) n && eqb (t .tag) g

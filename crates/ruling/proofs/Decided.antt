@@ -7,15 +7,15 @@ use native.Mathlib.Omega.{arith}
 use lib.ListN.{getD, drop}
 use lib.Seq.{getD-drop, getD-take}
 use Rattle.laws.specs.Lists.{any, first}
-use Rattle.laws.specs.Records.{recordAt}
-use Rattle.rules.specs.Tasks.{acaTask, same, named, turnOf, isNamed}
+use Rattle.laws.specs.RecordsInLists.{recordAt}
+use Rattle.rules.specs.Tasks.{acaTask, same, whoseTurn, turnOf, isNamed}
 use Rattle.rules.specs.Bits.{noPending}
 use Rattle.rules.specs.Rulings.{pendingOf, turn}
 use Rattle.rules.specs.Rules.{enter, complete, nexusOf, ruleFor, ruling}
 use Rattle.rules.specs.Well.{statesFit}
 use Rattle.rules.proofs.Cases.{ruling-low, rule-command, rule-completion, rule-management, rule-condition}
 use Rattle.rules.proofs.Settled.{settled-ordinary}
-use Rattle.rules.proofs.Turns.{named-in-aca}
+use Rattle.rules.proofs.TurnRule.{named-in-aca}
 use Rattle.rules.proofs.WellKept.{Tested}
 use Rattle.records.specs.Numbers.{pendingFrom}
 use Rattle.records.specs.Records.{headerFrom}
@@ -30,7 +30,7 @@ has-aca-is : (a : Allegiance) (ts : List Task) → statesFit a ts ≡ true → h
 has-aca-is Clear ts e = sym (settled-ordinary [] ts e)
 has-aca-is (Faulted f) ts e = refl
 
-pub searched-turn-is : (a : Allegiance) (run : ℕ) (ts : List Task) → statesFit a ts ≡ true → searchedTurn a run ts ≡ turnOf (named a run ts)
+pub searched-turn-is : (a : Allegiance) (run : ℕ) (ts : List Task) → statesFit a ts ≡ true → searchedTurn a run ts ≡ turnOf (whoseTurn a run ts)
 searched-turn-is Clear run ts e = chosen-named run ts e
 searched-turn-is (Faulted f) run ts e = rw (named-in-aca f run ts) (turn-found (first acaTask ts))
 

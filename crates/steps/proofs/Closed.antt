@@ -5,16 +5,16 @@ use mathlib.Core.List.{List, [], _∷_, _++_, map, append-assoc}
 use native.Mathlib.Omega.{arith}
 use lib.ListN.{length, take, drop, length-append, take-append-drop}
 use lib.Seq.{drop-drop, take-at}
-use Rattle.laws.specs.Records.{putAt, joined, keepUnless, keptRecords}
+use Rattle.laws.specs.RecordsInLists.{putAt, joined, keepUnless, keptRecords}
 use Rattle.rules.specs.Rulings.{State, kept, lost, fateOf, endedFrom}
 use Rattle.rules.proofs.Fates.{length-split}
 use Rattle.records.specs.Records.{headerBytes, taskBytes, unusedBytes}
 use Rattle.records.specs.Tables.{unusedRecords, tableBytes}
-use Rattle.records.proofs.Written.{task-back, length-joined, length-nexuses, table-tasks, table-front, behind-used}
+use Rattle.records.proofs.ReadBack.{task-back, length-joined, length-nexuses, table-tasks, table-front, behind-used}
 use Rattle.rules.specs.Types.{Task, Header, Fate, Stays, Ends, Sweep}
 use Rattle.steps.specs.Steps.{endsFate, goneBy, keptCount, closedBytes, losers, endsOf}
-use Rattle.steps.proofs.Ends.{joined-append}
-use Rattle.steps.proofs.Carried.{withTasks, withHeader, tasks-of-table, tasks-changed}
+use Rattle.steps.proofs.ListedEnds.{joined-append}
+use Rattle.steps.proofs.StepTables.{withTasks, withHeader, tasks-of-table, tasks-changed}
 
 kept-written :
     (w : Sweep) (ts : List Task) (rest : List ℕ)

@@ -6,12 +6,12 @@ use mathlib.Core.List.{List, _∷_, _++_, map, append-assoc, append-nil}
 use native.Mathlib.Omega.{arith}
 use lib.ListN.{length, take, drop}
 use lib.Seq.{drop-drop}
-use Rattle.laws.specs.Records.{recordAt, putAt, eachRecord, keptRecords, advanced}
-use Rattle.laws.proofs.Records.{record-long, put-long, put-behind, kept-step, kept-end}
+use Rattle.laws.specs.RecordsInLists.{recordAt, putAt, eachRecord, keptRecords, advanced}
+use Rattle.laws.proofs.RecordsInLists.{record-long, put-long, put-behind, kept-step, kept-end}
 use Rattle.rules.specs.Rulings.{kept, fateOf}
 use Rattle.records.specs.Records.{taskSize, taskFrom, unusedBytes}
 use Rattle.records.specs.Tables.{tasksAt, tasksFrom, unusedRecords}
-use Rattle.steps.proofs.Walks.{each-new}
+use Rattle.steps.proofs.InPlace.{each-new}
 use Rattle.rules.specs.Types.{Task, Fate, Stays, Ends, Sweep}
 use Rattle.steps.specs.Steps.{clearedRecord, nextPlace, vacatedBytes, endsFate, goneBy, keptCount, closedBytes}
 use Rattle.steps.specs.Closing.{oneUnless, KeptAs}

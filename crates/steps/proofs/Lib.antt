@@ -1,9 +1,9 @@
-pub mod Walks
+pub mod InPlace
 pub mod Closes
 pub mod Nobody
-pub mod Ends
+pub mod ListedEnds
 pub mod Losers
 pub mod Notes
-pub mod Carried
+pub mod StepTables
 pub mod Closed
 pub mod Noted

@@ -5,7 +5,7 @@ use mathlib.Core.Bool.{Bool, _&&_, _||_, or-assoc, or-false}
 use mathlib.Core.List.{List, _∷_, map}
 use lib.ListN.{drop}
 use Rattle.laws.specs.Lists.{any}
-use Rattle.laws.specs.Records.{recordAt}
+use Rattle.laws.specs.RecordsInLists.{recordAt}
 use Rattle.rules.specs.Rulings.{fateOf, lost}
 use Rattle.records.specs.Records.{taskFrom}
 use Rattle.records.specs.Tables.{tasksFrom}

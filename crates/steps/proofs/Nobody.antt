@@ -6,7 +6,7 @@ use mathlib.Core.List.{List, [], _∷_, _++_, map}
 use native.Mathlib.Omega.{arith}
 use lib.ListN.{take, drop}
 use lib.Seq.{take-add}
-use Rattle.laws.specs.Records.{keptRecords}
+use Rattle.laws.specs.RecordsInLists.{keptRecords}
 use Rattle.rules.specs.Rulings.{fateOf, kept, endedFrom}
 use Rattle.records.specs.Records.{taskSize}
 use Rattle.records.specs.Tables.{tasksAt, tasksFrom}

@@ -9,7 +9,7 @@ use lib.Dec.{eqb}
 use lib.ListN.{length, getD, set}
 use borrow.Author.Tests.{eq-eqb, ne-eqb}
 use Rattle.laws.specs.Lists.{any}
-use Rattle.laws.specs.Records.{eachRecord}
+use Rattle.laws.specs.RecordsInLists.{eachRecord}
 use Rattle.rules.specs.Tasks.{ofNexus}
 use Rattle.rules.specs.Bits.{noPending, without, afterPowerOn, afterHardReset, afterUnitReset, afterNexusLoss, afterCleared}
 use Rattle.rules.specs.Rulings.{State, tellLosersFrom, noted}
@@ -18,7 +18,7 @@ use Rattle.records.specs.Tables.{nexusRecords, taskRecords, tableBytes}
 use Rattle.records.proofs.Values.{pending-back}
 use Rattle.rules.specs.Types.{Task, Pending, Notice, Quiet, Reported, OthersLost, NexusLost, UnitWasReset, HardWasReset, PowerCameOn}
 use Rattle.steps.specs.Steps.{notedOne, notedRecord, nextPlace, notedBytes}
-use Rattle.steps.proofs.Carried.{withPending}
+use Rattle.steps.proofs.StepTables.{withPending}
 
 -- nexus i and above
 notedFrom : Notice → List Task → ℕ → List Pending → List Pending

@@ -5,8 +5,8 @@ use mathlib.Core.List.{List, _++_}
 use native.Mathlib.Omega.{arith}
 use lib.ListN.{length, getD, take, drop, set, length-set}
 use Rattle.laws.specs.Lists.{any}
-use Rattle.laws.specs.Records.{recordAt, putAt, eachRecord}
-use Rattle.laws.proofs.Records.{record-long, record-byte, put-long, put-behind, each-step, each-end}
+use Rattle.laws.specs.RecordsInLists.{recordAt, putAt, eachRecord}
+use Rattle.laws.proofs.RecordsInLists.{record-long, record-byte, put-long, put-behind, each-step, each-end}
 use Rattle.rules.specs.Tasks.{ofNexus}
 use Rattle.records.specs.Numbers.{pendingNumber, pendingFrom}
 use Rattle.rules.specs.Types.{Task, Notice}

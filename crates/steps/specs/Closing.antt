@@ -4,7 +4,7 @@ use mathlib.Core.Path.{_≡_}
 use mathlib.Core.Bool.{Bool, true, false}
 use mathlib.Core.List.{List, _++_}
 use lib.ListN.{length, take, drop}
-use Rattle.laws.specs.Records.{keptRecords}
+use Rattle.laws.specs.RecordsInLists.{keptRecords}
 use Rattle.records.specs.Records.{taskSize}
 use Rattle.rules.specs.Types.{Sweep}
 use Rattle.records.specs.Tables.{tasksAt}

@@ -3,7 +3,7 @@ use Prim.Native.Nat.{ℕ, _+_, _*_, _≤_}
 use mathlib.Core.Path.{_≡_}
 use mathlib.Core.List.{List, [], _∷_, _++_}
 use lib.ListN.{length, take}
-use Rattle.laws.specs.Records.{joined}
+use Rattle.laws.specs.RecordsInLists.{joined}
 use Rattle.rules.specs.Rulings.{fateOf}
 use Rattle.records.specs.Records.{taskSize, taskFrom, endedBytes}
 use Rattle.rules.specs.Types.{Task, Fate, Stays, Ends, Ended, Sweep}

@@ -17,14 +17,14 @@ use mathlib.Core.List.{List, _++_, map}
 use lib.Dec.{eqb}
 use lib.ListN.{length, getD, take, drop, set}
 use Rattle.laws.specs.Lists.{any}
-use Rattle.laws.specs.Records.{eachRecord, keptRecords}
+use Rattle.laws.specs.RecordsInLists.{eachRecord, keptRecords}
 use Rattle.rules.specs.Tasks.{nexuses, ofNexus, enabledIf, blockedIfEnabled}
 use Rattle.rules.specs.Bits.{without, afterPowerOn, afterHardReset, afterUnitReset, afterNexusLoss, afterCleared}
 use Rattle.rules.specs.Rulings.{kept, lost, fateOf, endedFrom}
 use Rattle.records.specs.Numbers.{attributeFrom, stateNumber, stateFrom, pendingNumber, pendingFrom}
 use Rattle.records.specs.Records.{nexusSize, taskSize, taskFrom, unusedBytes}
-use Rattle.decide.specs.Walks.{noOlder, behindBy, eligibleBy}
-use Rattle.rules.specs.Types.{Task, Allegiance, Clear, Faulted, Pending, Ended, Fate, Stays, Ends, Sweep, Nobody, OneTask, NexusTasks, AcaTask, AllTasks, ClearedBy, FailedTask, Notice, Quiet, Reported, OthersLost, NexusLost, UnitWasReset, HardWasReset, PowerCameOn}
+use Rattle.decide.specs.OlderTasks.{noOlder, behindBy, eligibleBy}
+use Rattle.rules.specs.Types.{Task, Allegiance, Pending, Ended, Fate, Sweep, Notice}
 use Rattle.decide.specs.declared.states.Older.{Older}
 use Rattle.records.specs.Tables.{nexusesAt, tasksAt, tasksFrom, unusedRecords}
 
@@ -49,9 +49,9 @@ unfoldable pub blockedBytes : ℕ → List ℕ → List ℕ
 blockedBytes n b = take tasksAt b ++ eachRecord taskSize blockedRecord nextPlace 0 n (drop tasksAt b)
 
 abbrev pub restatedBytes : Allegiance → Allegiance → ℕ → List ℕ → List ℕ
-restatedBytes before Clear n b = settledBytes n b
-restatedBytes Clear (Faulted f) n b = blockedBytes n b
-restatedBytes (Faulted g) (Faulted f) n b = b
+restatedBytes before Allegiance.Clear n b = settledBytes n b
+restatedBytes Allegiance.Clear (Allegiance.Faulted f) n b = blockedBytes n b
+restatedBytes (Allegiance.Faulted g) (Allegiance.Faulted f) n b = b
 
 -- Closing up -------------------------------------------------------------------------------------------------------------------------------
 
@@ -63,20 +63,20 @@ vacatedBytes i n b =
     take (tasksAt + taskSize * i) b ++ eachRecord taskSize clearedRecord nextPlace i n (drop (tasksAt + taskSize * i) b)
 
 abbrev pub endsFate : Fate → Bool
-endsFate Stays = false
-endsFate (Ends st) = true
+endsFate Fate.Stays = false
+endsFate (Fate.Ends st) = true
 
 abbrev pub goneBy : Sweep → List ℕ → Bool
 goneBy w r = endsFate (fateOf w (taskFrom r))
 
 abbrev pub endsNobody : Sweep → Bool
-endsNobody Nobody = true
-endsNobody (OneTask n g st) = false
-endsNobody (NexusTasks n) = false
-endsNobody AcaTask = false
-endsNobody AllTasks = false
-endsNobody (ClearedBy n p) = false
-endsNobody (FailedTask n g p) = false
+endsNobody Sweep.Nobody = true
+endsNobody (Sweep.OneTask n g st) = false
+endsNobody (Sweep.NexusTasks n) = false
+endsNobody Sweep.AcaTask = false
+endsNobody Sweep.AllTasks = false
+endsNobody (Sweep.ClearedBy n p) = false
+endsNobody (Sweep.FailedTask n g p) = false
 
 abbrev pub keptCount : Sweep → ℕ → List ℕ → ℕ
 keptCount w n l = length (kept (map (fateOf w) (tasksFrom n l)) (tasksFrom n l))
@@ -90,13 +90,13 @@ closedBytes w n b =
 -- Who is told ------------------------------------------------------------------------------------------------------------------------------
 
 abbrev pub notedOne : Notice → ℕ → Bool → Pending → Pending
-notedOne Quiet i lost p = p
-notedOne (Reported n b) i lost p = cond (eqb i n) (without b p) p
-notedOne (OthersLost n) i lost p = cond (not (eqb i n) && lost) (afterCleared p) p
-notedOne (NexusLost n) i lost p = cond (eqb i n) (afterNexusLoss p) p
-notedOne UnitWasReset i lost p = afterUnitReset p
-notedOne HardWasReset i lost p = afterHardReset p
-notedOne PowerCameOn i lost p = afterPowerOn p
+notedOne Notice.Quiet i lost p = p
+notedOne (Notice.Reported n b) i lost p = cond (eqb i n) (without b p) p
+notedOne (Notice.OthersLost n) i lost p = cond (not (eqb i n) && lost) (afterCleared p) p
+notedOne (Notice.NexusLost n) i lost p = cond (eqb i n) (afterNexusLoss p) p
+notedOne Notice.UnitWasReset i lost p = afterUnitReset p
+notedOne Notice.HardWasReset i lost p = afterHardReset p
+notedOne Notice.PowerCameOn i lost p = afterPowerOn p
 
 abbrev pub losers : Sweep → ℕ → List ℕ → List Task
 losers w n l = lost (map (fateOf w) (tasksFrom n l)) (tasksFrom n l)

@@ -5,7 +5,7 @@ use values::Sweep;
 ghost use mathlib.Core.Path.{_≡_};
 ghost use Prim.Native.Nat.{_+_, _≤_, _<_};
 ghost use lib.ListN.{length, set};
-ghost use Rattle.laws.specs.Records.{recordAt, putAt};
+ghost use Rattle.laws.specs.RecordsInLists.{recordAt, putAt};
 ghost use Rattle.steps.specs.Steps.{endsFate, endsNobody};
 
 pub fn is_end(f: Fate) -> bool

@@ -3,7 +3,7 @@
 --   mostRun                          := 4 HEAD OF QUEUE turns in a row while another task is enabled
 --   withCount, withAca, withRun h x  := the header with another count, allegiance, run
 --   runAfter a run                   := run after a turn of a task with attribute a
---   runNext h a named                := the header after a completion of a task with attribute a, by whether it was the named one
+--   runNext h a itsTurn              := the header after a completion of a task with attribute a, by whether it was its turn
 use Prim.Native.Nat.{ℕ, _+_, min}
 use mathlib.Core.Bool.{Bool, cond}
 use Rattle.values.specs.declared.Attribute.{Attribute, the-variants.Simple, the-variants.HeadOfQueue, the-variants.Ordered, the-variants.Aca}
@@ -31,4 +31,4 @@ runAfter Aca run = run
 
 -- "An accepted completion of the named task sets run .. Other completions .. leave it."
 abbrev pub runNext : Header → Attribute → Bool → Header
-runNext h a named = withRun h (cond named (runAfter a (h .run)) (h .run))
+runNext h a itsTurn = withRun h (cond itsTurn (runAfter a (h .run)) (h .run))

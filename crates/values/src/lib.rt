@@ -225,7 +225,7 @@ pub enum Turn {
     Names(Named),
 }
 
-// ---- What the operations say; document 01's numbers for each answer are in operations/specs/Answers.
+// ---- What the operations say; document 01's numbers for each answer are in operations/specs/AnswerNumbers.
 
 // The answer to an event, and the ended count.
 pub struct Applied {

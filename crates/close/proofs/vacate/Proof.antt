@@ -5,7 +5,7 @@ use native.Mathlib.Omega.{arith}
 use Rattle.records.specs.Records.{taskSize}
 use Rattle.records.specs.Tables.{tasksAt}
 use Rattle.steps.specs.Steps.{clearedRecord, nextPlace, vacatedBytes}
-use Rattle.steps.proofs.Walks.{Walking, walk-on, walk-ends}
+use Rattle.steps.proofs.InPlace.{Walking, walk-on, walk-ends}
 use Rattle.close.proofs.vacate.Statement.{statement}
 use Rattle.close.proofs.vacate.Tie as tie
 

@@ -1,6 +1,6 @@
 use borrow.Author.Needs.{needs}
 use native.Mathlib.Omega.{arith}
-use Rattle.lines.proofs.Written.{put-both, decimal-one, decimal-two, decimal-three}
+use Rattle.lines.proofs.PutBytes.{put-both, decimal-one, decimal-two, decimal-three}
 use Rattle.lines.proofs.put_decimal.Statement.{statement}
 use Rattle.lines.proofs.put_decimal.Tie as tie
 

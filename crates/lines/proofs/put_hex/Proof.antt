@@ -1,5 +1,5 @@
 use borrow.Author.Needs.{needs}
-use Rattle.lines.proofs.Written.{put-both}
+use Rattle.lines.proofs.PutBytes.{put-both}
 use Rattle.lines.proofs.put_hex.Statement.{statement}
 use Rattle.lines.proofs.put_hex.Tie as tie
 

@@ -3,7 +3,7 @@ use Prim.Native.Nat.{_-_}
 use mathlib.Core.Path.{sym, _∙_}
 use native.Mathlib.Omega.{arith}
 use Rattle.steps.proofs.Nobody.{nobody-listed}
-use Rattle.steps.proofs.Ends.{Listing, listing-none, listing-more, listing-all}
+use Rattle.steps.proofs.ListedEnds.{Listing, listing-none, listing-more, listing-all}
 use Rattle.report.proofs.list_ends.Statement.{statement}
 use Rattle.report.proofs.list_ends.Tie as tie
 

@@ -1,7 +1,7 @@
 use borrow.Author.Needs.{needs}
 use mathlib.Core.Path.{sym, _∙_}
 use native.Mathlib.Omega.{arith}
-use Rattle.steps.proofs.Ends.{listed-none, listed-one}
+use Rattle.steps.proofs.ListedEnds.{listed-none, listed-one}
 use Rattle.report.proofs.list_one.Statement.{statement}
 use Rattle.report.proofs.list_one.Tie as tie
 

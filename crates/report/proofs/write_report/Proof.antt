@@ -1,7 +1,7 @@
 use borrow.Author.Needs.{needs}
 use lib.ListN.{drop}
 use Rattle.steps.specs.Steps.{endsOf}
-use Rattle.steps.proofs.Ends.{report-whole}
+use Rattle.steps.proofs.ListedEnds.{report-whole}
 use Rattle.report.proofs.write_report.Statement.{statement}
 use Rattle.report.proofs.write_report.Tie as tie
 

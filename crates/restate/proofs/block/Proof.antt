@@ -5,7 +5,7 @@ use native.Mathlib.Omega.{arith}
 use Rattle.records.specs.Records.{taskSize}
 use Rattle.records.specs.Tables.{tasksAt}
 use Rattle.steps.specs.Steps.{blockedRecord, nextPlace, blockedBytes}
-use Rattle.steps.proofs.Walks.{Walking, byte-of, stored-long, walk-begins, walk-on, walk-ends}
+use Rattle.steps.proofs.InPlace.{Walking, byte-of, stored-long, walk-begins, walk-on, walk-ends}
 use Rattle.restate.proofs.block.Statement.{statement}
 use Rattle.restate.proofs.block.Tie as tie
 

@@ -4,7 +4,7 @@ use native.Mathlib.Omega.{arith}
 use Rattle.records.specs.Records.{taskSize}
 use Rattle.records.specs.Tables.{tasksAt}
 use Rattle.steps.specs.Steps.{settledRecord, behindRecord, settledBytes}
-use Rattle.steps.proofs.Walks.{Walking, byte-of, stored-long, walk-begins, walk-on, walk-ends}
+use Rattle.steps.proofs.InPlace.{Walking, byte-of, stored-long, walk-begins, walk-on, walk-ends}
 use Rattle.restate.proofs.settle.Statement.{statement}
 use Rattle.restate.proofs.settle.Tie as tie
 

@@ -1,5 +1,5 @@
 use borrow.Author.Needs.{needs}
-use Rattle.laws.proofs.Records.{store-byte}
+use Rattle.laws.proofs.RecordsInLists.{store-byte}
 use Rattle.steps.proofs.put_byte.Statement.{statement}
 use Rattle.steps.proofs.put_byte.Tie as tie
 

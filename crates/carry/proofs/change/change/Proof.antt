@@ -1,7 +1,7 @@
 use borrow.Author.Needs.{needs}
 use native.Mathlib.Omega.{arith}
 use mathlib.Core.Path.{_∙_}
-use Rattle.carry.proofs.Carried.{change-long, change-few, change-room, header-kept, changed}
+use Rattle.carry.proofs.ChangeTable.{change-long, change-few, change-room, header-kept, changed}
 use Rattle.carry.proofs.change.change.Statement.{statement}
 use Rattle.carry.proofs.change.change.Tie as tie
 

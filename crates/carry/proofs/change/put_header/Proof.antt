@@ -1,6 +1,6 @@
 use native.Mathlib.Omega.{arith}
 use lib.ListN.{length-set}
-use Rattle.carry.proofs.Carried.{header-stored}
+use Rattle.carry.proofs.ChangeTable.{header-stored}
 use Rattle.carry.proofs.change.put_header.Statement.{statement}
 use Rattle.carry.proofs.change.put_header.Tie as tie
 

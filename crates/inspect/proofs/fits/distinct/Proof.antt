@@ -8,7 +8,7 @@ use lib.Dec.{eqb}
 use lib.ListN.{take}
 use lib.Seq.{slice, slice-empty}
 use Rattle.laws.specs.Lists.{any}
-use Rattle.inspect.specs.Tests.{apart, spareKey}
+use Rattle.inspect.specs.TableTest.{keysApart, spareKey}
 use Rattle.inspect.proofs.Keys.{slice-next, slice-past, four}
 use Rattle.inspect.proofs.fits.distinct.Statement.{statement}
 use Rattle.inspect.proofs.fits.distinct.Tie as tie
@@ -17,14 +17,14 @@ use Rattle.inspect.proofs.fits.distinct.Tie as tie
 record Outer (keys : List ℕ) (n : ℕ) (ok : Bool) (i : ℕ) : Type 0 where
   passed : i ≤ n
   clear : ok ≡ true
-  rest : apart (slice i n keys) ≡ apart (take n keys)
+  rest : keysApart (slice i n keys) ≡ keysApart (take n keys)
 
 -- and k, which is at i, has been held against those before j
 record Inner (keys : List ℕ) (n i k : ℕ) (ok : Bool) (j : ℕ) : Type 0 where
   here : i < n
   low : k < spareKey
   clear : ok ≡ true
-  rest : (not (any (eqb k) (slice j n keys)) && apart (slice (i + 1) n keys)) ≡ apart (take n keys)
+  rest : (not (any (eqb k) (slice j n keys)) && keysApart (slice (i + 1) n keys)) ≡ keysApart (take n keys)
 
 abbrev Inv-loop : tie.InvT-loop
 Inv-loop keys n clear₀ i k j₀ clear j = Inner keys n i k clear j
@@ -39,7 +39,7 @@ abbrev μ-pairs : tie.MeasureT-pairs
 μ-pairs keys n clear₀ i₀ clear i = n - i
 
 pub distinct-spec : {M : Type 1} → statement M
-unfolding apart
+unfolding keysApart
 distinct-spec =
     tie.close
     (tie.spec

@@ -3,7 +3,7 @@ use native.Mathlib.Omega.{arith}
 use lib.ListN.{drop, length-append, length-drop}
 use lib.Seq.{take-at}
 use Rattle.records.proofs.Good.{bytes-drop}
-use Rattle.inspect.specs.Tests.{keysFrom}
+use Rattle.inspect.specs.TableTest.{keysFrom}
 use Rattle.inspect.proofs.Keys.{keys-long, noted-spared}
 use Rattle.inspect.proofs.fits.names_fit.Statement.{statement}
 use Rattle.inspect.proofs.fits.names_fit.Tie as tie

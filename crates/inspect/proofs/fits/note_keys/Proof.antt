@@ -4,7 +4,7 @@ use mathlib.Core.List.{List, _++_}
 use Prim.Native.Nat.{ℕ, _≤_, _-_, _+_, _*_}
 use native.Mathlib.Omega.{arith}
 use lib.ListN.{length, take, drop, length-set, take-append-drop}
-use Rattle.inspect.specs.Tests.{keysFrom}
+use Rattle.inspect.specs.TableTest.{keysFrom}
 use Rattle.inspect.proofs.Loops.{keys-next}
 use Rattle.inspect.proofs.Keys.{store-next}
 use Rattle.inspect.proofs.fits.note_keys.Statement.{statement}

@@ -5,8 +5,8 @@ use mathlib.Core.Path.{_≡_}
 use Prim.Native.Nat.{_≤_, _-_, _+_, _*_}
 use native.Mathlib.Omega.{arith}
 use lib.ListN.{drop}
-use Rattle.decide.specs.Walks.{noOlder}
-use Rattle.inspect.specs.Tests.{usedFit}
+use Rattle.decide.specs.OlderTasks.{noOlder}
+use Rattle.inspect.specs.TableTest.{usedFit}
 use Rattle.inspect.proofs.Loops.{used-next}
 use Rattle.inspect.proofs.fits.used_fit.Statement.{statement}
 use Rattle.inspect.proofs.fits.used_fit.Tie as tie

@@ -1,7 +1,7 @@
 use borrow.Author.Needs.{needs}
 use Rattle.judge.proofs.entry.checks_past_aca.Statement.{statement}
 use Rattle.judge.proofs.entry.checks_past_aca.Tie as tie
-use Rattle.judge.specs.Entries.{lastChecks, checksPastAca}
+use Rattle.judge.specs.LastChecks.{lastChecks, checksPastAca}
 
 pub checks-past-aca-spec : {M : Type 1} → statement M
 unfolding lastChecks checksPastAca

@@ -3,7 +3,7 @@ use mathlib.Core.Path.{sym, _∙_}
 use Rattle.judge.proofs.entry.enter.Statement.{statement}
 use Rattle.judge.proofs.entry.enter.Tie as tie
 use Rattle.rules.specs.Rules.{enter}
-use Rattle.judge.proofs.Checks.{enter-held, enter-past}
+use Rattle.judge.proofs.EnterHeld.{enter-held, enter-past}
 
 pub enter-spec : {M : Type 1} → statement M
 unfolding enter

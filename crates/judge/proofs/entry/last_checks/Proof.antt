@@ -1,7 +1,7 @@
 use borrow.Author.Needs.{needs}
 use Rattle.judge.proofs.entry.last_checks.Statement.{statement}
 use Rattle.judge.proofs.entry.last_checks.Tie as tie
-use Rattle.judge.specs.Entries.{lastChecks}
+use Rattle.judge.specs.LastChecks.{lastChecks}
 
 pub last-checks-spec : {M : Type 1} → statement M
 unfolding lastChecks

@@ -1,5 +1,5 @@
 use borrow.Author.Needs.{needs}
-use Rattle.records.proofs.Words.{nexus-word}
+use Rattle.records.proofs.WordTests.{nexus-word}
 use Rattle.records.proofs.nexus.nexus_fits.Statement.{statement}
 use Rattle.records.proofs.nexus.nexus_fits.Tie as tie
 

@@ -1,7 +1,7 @@
 use borrow.Author.Needs.{needs}
 use mathlib.Core.Path.{_∙_}
 use Rattle.laws.proofs.Bits.{no-bit-between}
-use Rattle.records.proofs.Words.{unused-word}
+use Rattle.records.proofs.WordTests.{unused-word}
 use Rattle.records.proofs.tasks.unlike_unused.Statement.{statement}
 use Rattle.records.proofs.tasks.unlike_unused.Tie as tie
 

@@ -7,8 +7,8 @@ use native.Mathlib.Numerals.{add-one}
 use native.Mathlib.Omega.{arith}
 use lib.Seq.{drop-drop}
 use lib.ListN.{length, getD, take, drop, set, length-set}
-use Rattle.laws.specs.Records.{recordAt, putAt, eachRecord}
-use Rattle.laws.proofs.Records.{record-long, record-byte, put-long, each-step, each-end}
+use Rattle.laws.specs.RecordsInLists.{recordAt, putAt, eachRecord}
+use Rattle.laws.proofs.RecordsInLists.{record-long, record-byte, put-long, each-step, each-end}
 use Rattle.steps.specs.Steps.{nextPlace}
 
 -- a byte of the record at a place, read by its own place

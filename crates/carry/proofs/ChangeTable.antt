@@ -5,7 +5,7 @@ use mathlib.Core.Path.{_≡_, refl, ap, sym, _∙_}
 use mathlib.Core.List.{List, [], _∷_, _++_, map, append-nil}
 use native.Mathlib.Omega.{arith}
 use lib.ListN.{length, drop, set, length-append, take-append-drop}
-use Rattle.laws.specs.Records.{recordAt, putAt}
+use Rattle.laws.specs.RecordsInLists.{recordAt, putAt}
 use Rattle.rules.specs.Tasks.{restate}
 use Rattle.values.specs.Headers.{withCount}
 use Rattle.rules.specs.Rulings.{State, kept, lost, fateOf, newcomers, noted, tasksAfter, ruled, reportOf}
@@ -17,7 +17,7 @@ use Rattle.records.specs.Records.{headerBytes}
 use Rattle.records.specs.Tables.{Bytes, stateOf, tableBytes, reportBytes}
 use Rattle.records.proofs.Good.{table-tested, good-tested, table-good}
 use Rattle.steps.specs.Steps.{restatedBytes, losers, keptCount, closedBytes, endsOf}
-use Rattle.steps.proofs.Carried.{withTasks, withPending, settled-table, blocked-table}
+use Rattle.steps.proofs.StepTables.{withTasks, withPending, settled-table, blocked-table}
 use Rattle.steps.proofs.Closed.{kept-count, losers-are, ends-are, closed-table, joined-table, header-table}
 use Rattle.steps.proofs.Noted.{noted-table}
 use Rattle.rules.specs.Types.{Task, Header, Ended, Allegiance, Clear, Faulted, Notice, Quiet, Reported, OthersLost, NexusLost, UnitWasReset, HardWasReset, PowerCameOn, Joins, NoTask, NewTask, Change, Done, Changes}

@@ -6,7 +6,7 @@ use mathlib.Core.List.{List, [], _∷_, _++_, append-assoc}
 use native.Mathlib.Omega.{arith}
 use lib.ListN.{length, getD, take, drop, set, length-append, length-take, length-drop, take-append-drop}
 use lib.Seq.{drop-drop, drop-append-add, drop-at, take-at, set-append-left, drop-set-add, take-set-le, getD-drop, getD-take}
-use Rattle.laws.specs.Records.{recordAt, putAt, joined, eachRecord, keepUnless, keptRecords, advanced}
+use Rattle.laws.specs.RecordsInLists.{recordAt, putAt, joined, eachRecord, keepUnless, keptRecords, advanced}
 
 -- a record is as long as its width
 pub record-long : (w : ℕ) (l : List ℕ) (at : ℕ) → at + w ≤ length l → length (recordAt w l at) ≡ w

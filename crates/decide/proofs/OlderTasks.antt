@@ -10,7 +10,7 @@ use Rattle.rules.specs.Tasks.{holdsBack, eligible, enabledIf, withState, settle
 use Rattle.rules.specs.Well.{settledTask, heldTask, settled, held, statesFit}
 use Rattle.rules.specs.Types.{Attribute, Simple, HeadOfQueue, Ordered, Aca, Task, Allegiance, Clear, Faulted}
 use Rattle.decide.specs.Types.{Older}
-use Rattle.decide.specs.Walks.{noOlder, behindBy, eligibleBy, settledBy, fitBy}
+use Rattle.decide.specs.OlderTasks.{noOlder, behindBy, eligibleBy, settledBy, fitBy}
 
 -- Older tasks in two bits ------------------------------------------------------------------------------------------------------------------
 

@@ -15,7 +15,7 @@ use Rattle.rules.specs.Types.{Task, Entry, Command, NoBit, Ended, NexusT
 use Rattle.rules.specs.Tasks.{acaTask, ofNexus, same}
 use Rattle.rules.specs.Bits.{top}
 use Rattle.rules.specs.Rulings.{State, pendingOf, endIf, fateOf, endedFrom, taskName}
-use Rattle.rules.specs.Rules.{sweeping, ended, checked, check2, badAttribute, check5, accepting, decide, enter, ruleFor, ruling, step, answer, report}
+use Rattle.rules.specs.Rules.{sweeping, endedWith, checked, check2, badAttribute, check5, accepting, firstThatRules, enter, ruleFor, ruling, step, answer, report}
 use Rattle.rules.specs.Well.{WellFormed}
 use Rattle.rules.proofs.Fates.{kept-others, ended-gone}
 use Rattle.rules.proofs.Distinct.{any-restate, map-restate}
@@ -92,7 +92,7 @@ pub record Passes (s : State) (c : Entry) : Type 0 where
 
 passed-ruling :
     (s : State) (c : Entry) → Passes s c
-    → ruling s (Command c) ≡ decide (check5 (s .header) ∷ []) (Changes Done (accepting (s .header) c))
+    → ruling s (Command c) ≡ firstThatRules (check5 (s .header) ∷ []) (Changes Done (accepting (s .header) c))
 unfolding ruling ruleFor enter
 passed-ruling s c p =
     rw (lt-ltb (c .nexus) 8 (p .low), p .not-overlapped, p .aca-lets-it, quiet (p .no-attention), p .attribute-good)
@@ -104,7 +104,7 @@ passed-ruling s c p =
 -- "5. 64 tasks: TASK SET FULL 28h. .. 6. Accepted": at 64 and at no fewer
 pub full-at-64-only :
     (s : State) (c : Entry) → WellFormed s → Passes s c
-    → (length (s .tasks) ≡ 64 → answer s (Command c) ≡ ended 0x28) × (length (s .tasks) < 64 → answer s (Command c) ≡ Done)
+    → (length (s .tasks) ≡ 64 → answer s (Command c) ≡ endedWith 0x28) × (length (s .tasks) < 64 → answer s (Command c) ≡ Done)
 unfolding answer
 full-at-64-only s c w p = (
   λ h. rw (passed-ruling s c p, le-leb 64 (s .header .count) (omega (arith, w .counted))),

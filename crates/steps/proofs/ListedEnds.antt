@@ -4,8 +4,8 @@ use mathlib.Core.Path.{_≡_, refl, sym, ap, _∙_}
 use mathlib.Core.List.{List, [], _∷_, _++_, map, append-assoc, append-nil}
 use native.Mathlib.Omega.{arith}
 use lib.ListN.{length, take, drop, replicate, length-append, length-take, length-drop, drop-of-length-le}
-use Rattle.laws.specs.Records.{recordAt, putAt, joined}
-use Rattle.laws.proofs.Records.{put-long, put-taken}
+use Rattle.laws.specs.RecordsInLists.{recordAt, putAt, joined}
+use Rattle.laws.proofs.RecordsInLists.{put-long, put-taken}
 use Rattle.rules.specs.Rulings.{fateOf, endedFrom}
 use Rattle.records.specs.Records.{taskFrom, endedBytes}
 use Rattle.records.specs.Tables.{tasksFrom, reportBytes}

@@ -3,17 +3,17 @@ use Prim.Native.Nat.{ℕ, _+_, _-_}
 use mathlib.Core.Path.{_≡_, refl, ap, _∙_}
 use mathlib.Core.List.{List, [], _++_, map, append-assoc}
 use lib.ListN.{length, take, drop, length-map}
-use Rattle.laws.specs.Records.{joined, eachRecord}
-use Rattle.laws.proofs.Records.{each-written}
+use Rattle.laws.specs.RecordsInLists.{joined, eachRecord}
+use Rattle.laws.proofs.RecordsInLists.{each-written}
 use Rattle.rules.specs.Tasks.{withState, enabledIf, settleFrom}
 use Rattle.rules.specs.Rulings.{State}
 use Rattle.rules.proofs.Distinct.{blockedTask, length-restate}
 use Rattle.records.specs.Records.{headerBytes, taskBytes}
 use Rattle.records.specs.Tables.{tasksFrom, nexusRecords, unusedRecords, taskRecords, tableBytes}
 use Rattle.records.proofs.Values.{attribute-back, state-back}
-use Rattle.records.proofs.Written.{tasks-back, table-tasks, table-front}
-use Rattle.decide.specs.Walks.{noOlder, behindBy, eligibleBy, settledBy}
-use Rattle.decide.proofs.Walks.{settled-walk}
+use Rattle.records.proofs.ReadBack.{tasks-back, table-tasks, table-front}
+use Rattle.decide.specs.OlderTasks.{noOlder, behindBy, eligibleBy, settledBy}
+use Rattle.decide.proofs.OlderTasks.{settled-walk}
 use Rattle.rules.specs.Types.{Task, Header, Pending, Clear}
 use Rattle.steps.specs.Steps.{settledRecord, behindRecord, settledBytes, blockedRecord, nextPlace, blockedBytes}
 

@@ -3,7 +3,7 @@
 --   usedFit n aca o l   := the first n task records are good, and their states fit behind o
 --   keyOf t             := nexus and tag as one number
 --   keysFrom n l        := the keys of the first n task records
---   apart ks            := no two keys are the same
+--   keysApart ks            := no two keys are the same
 --   spareKey            := a number that is no task's key, whatever its bytes: nexus 256, tag 0
 --   Spared ks n         := the first n of the 68 are tasks' keys, the others spare
 --   recordsFit n aca b  := the records behind a header that says n tasks and aca are good, their states fit, and no two share a name
@@ -15,11 +15,11 @@ use mathlib.Core.List.{List, [], _∷_}
 use lib.Dec.{eqb}
 use lib.ListN.{length, getD, take, drop}
 use Rattle.laws.specs.Lists.{any}
-use Rattle.laws.specs.Records.{recordAt}
+use Rattle.laws.specs.RecordsInLists.{recordAt}
 use Rattle.rules.specs.Tasks.{places, nexuses}
 use Rattle.records.specs.Records.{headSize, taskSize, headerFrom, headerFits, taskFrom, taskFits}
 use Rattle.records.specs.Tables.{tableSize, nexusesAt, tasksAt, countIn, nexusesFit, unusedFit}
-use Rattle.decide.specs.Walks.{noOlder, behindBy, fitsBy}
+use Rattle.decide.specs.OlderTasks.{noOlder, behindBy, fitsBy}
 use Rattle.rules.specs.Types.{Task, Allegiance}
 use Rattle.decide.specs.declared.states.Older.{Older}
 
@@ -37,9 +37,9 @@ unfoldable pub keysFrom : ℕ → List ℕ → List ℕ
 keysFrom zero l = []
 keysFrom (suc n) l = keyOf (taskFrom (take taskSize l)) ∷ keysFrom n (drop taskSize l)
 
-unfoldable pub apart : List ℕ → Bool
-apart [] = true
-apart (k ∷ ks) = not (any (eqb k) ks) && apart ks
+unfoldable pub keysApart : List ℕ → Bool
+keysApart [] = true
+keysApart (k ∷ ks) = not (any (eqb k) ks) && keysApart ks
 
 abbrev pub spareKey : ℕ
 spareKey = 0x0100_0000
@@ -52,7 +52,7 @@ abbrev pub recordsFit : ℕ → Allegiance → List ℕ → Bool
 recordsFit n aca b =
     nexusesFit 0 nexuses (drop nexusesAt b)
     && (usedFit n aca noOlder (drop tasksAt b)
-    && (unusedFit (places - n) (drop (tasksAt + taskSize * n) b) && apart (keysFrom n (drop tasksAt b))))
+    && (unusedFit (places - n) (drop (tasksAt + taskSize * n) b) && keysApart (keysFrom n (drop tasksAt b))))
 
 unfoldable pub tableTest : List ℕ → Bool
 tableTest b =

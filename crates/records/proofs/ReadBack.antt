@@ -5,7 +5,7 @@ use mathlib.Core.List.{List, [], _∷_, _++_, append-assoc}
 use native.Mathlib.Omega.{arith}
 use lib.ListN.{length, getD, take, drop, length-append}
 use lib.Seq.{drop-drop, drop-at, take-at}
-use Rattle.laws.specs.Records.{recordAt, joined}
+use Rattle.laws.specs.RecordsInLists.{recordAt, joined}
 use Rattle.rules.specs.Rulings.{State}
 use Rattle.rules.specs.Types.{Task, Pending}
 use Rattle.records.specs.Records.{headerBytes, headerFrom, taskBytes, taskFrom}

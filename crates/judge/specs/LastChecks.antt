@@ -7,7 +7,7 @@ use Prim.Native.Nat.{ℕ}
 use mathlib.Core.Bool.{cond}
 use mathlib.Core.List.{[], _∷_}
 use Rattle.rules.specs.Bits.{top, senseFor}
-use Rattle.rules.specs.Rules.{check3, check4, check5, accepting, decide}
+use Rattle.rules.specs.Rules.{check3, check4, check5, accepting, firstThatRules}
 use Rattle.rules.specs.Types.{Entry, Header, Pending, Bit, NoBit, EndedAtEntry, Done, Nobody, NoTask, Reported, Ruling, Changes}
 
 abbrev pub reporting : Header → ℕ → Bit → Ruling
@@ -15,10 +15,10 @@ reporting h n b =
     Changes (EndedAtEntry 0x02 (senseFor b)) (record { sweep = Nobody; joins = NoTask; header = h; notice = Reported n b })
 
 unfoldable pub lastChecks : Header → Entry → Ruling
-lastChecks h c = decide (check4 (h .aca) c ∷ check5 h ∷ []) (Changes Done (accepting h c))
+lastChecks h c = firstThatRules (check4 (h .aca) c ∷ check5 h ∷ []) (Changes Done (accepting h c))
 
 unfoldable pub checksPastAca : Header → Entry → Pending → Ruling
 checksPastAca h c p =
-    decide
+    firstThatRules
     (check3 h (c .nexus) (cond (c .exempt) NoBit (top p)) ∷ check4 (h .aca) c ∷ check5 h ∷ [])
     (Changes Done (accepting h c))

@@ -11,7 +11,7 @@ use Rattle.laws.specs.Lists.{one-if, any, count, first}
 use Rattle.laws.proofs.Bools.{and-true, and-false, or-false, or-true, not-both, none-some, cases, split}
 use Rattle.laws.proofs.Lists.{first-cases, first-passes, first-none, first-stands, first-append}
 use Rattle.rules.specs.Types.{Attribute, Simple, HeadOfQueue, Ordered, Aca, Task, Allegiance, Clear, Faulted, Finish, Completion, Nothing, Done}
-use Rattle.rules.specs.Tasks.{isHead, isPlain, isAca, isEnabled, acaTask, enabledTask, enabledHead, enabledPlain, same, named, turnOf, isNamed}
+use Rattle.rules.specs.Tasks.{isHead, isPlain, isAca, isEnabled, acaTask, enabledTask, enabledHead, enabledPlain, same, whoseTurn, turnOf, isNamed}
 use Rattle.rules.specs.Rulings.{State, turn}
 use Rattle.rules.specs.Rules.{complete, ruleFor, ruling, answer}
 use Rattle.rules.specs.Well.{Stands, WellFormed, settled, distinct}
@@ -20,8 +20,8 @@ use Rattle.rules.proofs.Settled.{headTask, is-aca, settled-cons, enable
 use Rattle.rules.proofs.WellSays.{says-tested, clear-settled}
 
 -- "With ACA: the ACA task, else nothing"
-pub named-in-aca : (f run : ℕ) (ts : List Task) → named (Faulted f) run ts ≡ first acaTask ts
-unfolding named
+pub named-in-aca : (f run : ℕ) (ts : List Task) → whoseTurn (Faulted f) run ts ≡ first acaTask ts
+unfolding whoseTurn
 named-in-aca f run ts = refl
 
 abbrev pub otherTask : Task → Bool
@@ -74,9 +74,9 @@ else-not-head run u us e b =
 
 -- whom the turn rule names: the oldest HEAD OF QUEUE task, after fewer than four of them if the oldest task is none; or the oldest
 named-cases :
-    {P : Type 0} (run : ℕ) (u : Task) (us : List Task) (x : Task) → settled [] (u ∷ us) ≡ true → named Clear run (u ∷ us) ≡ some x
+    {P : Type 0} (run : ℕ) (u : Task) (us : List Task) (x : Task) → settled [] (u ∷ us) ≡ true → whoseTurn Clear run (u ∷ us) ≡ some x
     → (first enabledHead (u ∷ us) ≡ some x → (headTask u ≡ false → run < 4) → P) → (u ≡ x → headTask u ≡ false → P) → P
-unfolding named
+unfolding whoseTurn
 named-cases {P} run u us x e n f g =
     cases (λ o. o ≡ some x → P) (any enabledHead (u ∷ us) && (ltb run 4 || not (any enabledPlain (u ∷ us))))
     (λ b h.
@@ -102,7 +102,7 @@ enabled-at older (u ∷ us) t post e h =
 -- is none; or, past a task that is none with no older HEAD OF QUEUE ones, a younger HEAD OF QUEUE one after fewer than four
 pub turn-cases :
     {P : Type 0} (run : ℕ) (pre : List Task) (t : Task) (post : List Task) (x : Task) → settled [] (pre ++ t ∷ post) ≡ true
-    → named Clear run (pre ++ t ∷ post) ≡ some x
+    → whoseTurn Clear run (pre ++ t ∷ post) ≡ some x
     → (t ≡ x → P)
     → (first enabledHead pre ≡ some x → P)
     → (first otherTask pre ≡ some x → P)
@@ -130,8 +130,8 @@ turn-cases {P} run (u ∷ us) t post x e n hit older plain younger =
     (λ b y. plain (rw (y, b)))
 
 -- whoever is named is the first that passes a test, ACA or not
-named-first : (a : Allegiance) (run : ℕ) (ts : List Task) (x : Task) → named a run ts ≡ some x → (p : Task → Bool) × (first p ts ≡ some x)
-unfolding named
+named-first : (a : Allegiance) (run : ℕ) (ts : List Task) (x : Task) → whoseTurn a run ts ≡ some x → (p : Task → Bool) × (first p ts ≡ some x)
+unfolding whoseTurn
 named-first (Faulted f) run ts x e = (acaTask, e)
 named-first Clear run ts x e =
     cases (λ o. o ≡ some x → (p : Task → Bool) × (first p ts ≡ some x))
@@ -142,7 +142,7 @@ named-first Clear run ts x e =
 
 -- the named task is the one that its nexus and tag find
 pub named-found :
-    (a : Allegiance) (run n g : ℕ) (ts : List Task) (x : Task) → distinct ts ≡ true → named a run ts ≡ some x → same n g x ≡ true
+    (a : Allegiance) (run n g : ℕ) (ts : List Task) (x : Task) → distinct ts ≡ true → whoseTurn a run ts ≡ some x → same n g x ≡ true
     → first (same n g) ts ≡ some x
 named-found a run n g ts x d e h = let o = named-first a run ts x e in distinct-first n g (o .0) ts x d (o .1) h
 
@@ -150,11 +150,11 @@ named-found a run n g ts x d e h = let o = named-first a run ts x e in distinct-
 
 -- whoever is named is enabled
 named-enabled :
-    (s : State) (x : Task) → WellFormed s → named (s .header .aca) (s .header .run) (s .tasks) ≡ some x → enabledTask x ≡ true
-unfolding named
+    (s : State) (x : Task) → WellFormed s → whoseTurn (s .header .aca) (s .header .run) (s .tasks) ≡ some x → enabledTask x ≡ true
+unfolding whoseTurn
 named-enabled s x w e = go (s .header .aca) refl e
   where
-    go : (a : Allegiance) → s .header .aca ≡ a → named a (s .header .run) (s .tasks) ≡ some x → enabledTask x ≡ true
+    go : (a : Allegiance) → s .header .aca ≡ a → whoseTurn a (s .header .run) (s .tasks) ≡ some x → enabledTask x ≡ true
     go (Faulted f) h k =
         let o = first-stands acaTask (s .tasks) x k in
         let a = is-aca (x .attribute) (first-passes acaTask (s .tasks) x k) in
@@ -170,10 +170,10 @@ named-enabled s x w e = go (s .header .aca) refl e
 pub named-completes :
     (s : State) (n g : ℕ) (f : Finish) → WellFormed s → isNamed n g (turn s) ≡ true → answer s (Completion n g f) ≡ Done
 unfolding answer ruling ruleFor complete
-named-completes s n g f w e = go (named (s .header .aca) (s .header .run) (s .tasks)) refl e
+named-completes s n g f w e = go (whoseTurn (s .header .aca) (s .header .run) (s .tasks)) refl e
   where
     go :
-        (o : Option Task) → named (s .header .aca) (s .header .run) (s .tasks) ≡ o → isNamed n g (turnOf o) ≡ true
+        (o : Option Task) → whoseTurn (s .header .aca) (s .header .run) (s .tasks) ≡ o → isNamed n g (turnOf o) ≡ true
         → answer s (Completion n g f) ≡ Done
     go none q z = not-both z refl
     go (some x) q z =
@@ -189,11 +189,11 @@ nothing-none (some x) e = absurd (let z : _≡_ {A = ℕ} 0 1 = cc in omega arit
 
 -- without ACA a table with tasks names somebody
 pub somebody-named : (s : State) → WellFormed s → s .header .aca ≡ Clear → (s .tasks ≡ [] → ⊥) → turn s ≡ Nothing → ⊥
-unfolding named
+unfolding whoseTurn
 somebody-named s w c some-task e =
-    go (s .tasks) refl (rw c at (nothing-none (named (s .header .aca) (s .header .run) (s .tasks)) e))
+    go (s .tasks) refl (rw c at (nothing-none (whoseTurn (s .header .aca) (s .header .run) (s .tasks)) e))
   where
-    go : (ts : List Task) → s .tasks ≡ ts → named Clear (s .header .run) ts ≡ none → ⊥
+    go : (ts : List Task) → s .tasks ≡ ts → whoseTurn Clear (s .header .run) ts ≡ none → ⊥
     go [] q z = some-task q
     go (u ∷ us) q z =
         cases (λ o. o ≡ none → ⊥) (any enabledHead (u ∷ us) && (ltb (s .header .run) 4 || not (any enabledPlain (u ∷ us))))
@@ -227,10 +227,10 @@ else-plain s x w c h n = go (s .tasks) refl n
 -- a HEAD OF QUEUE task that is named is the oldest enabled one of them
 pub named-head-oldest :
     (s : State) (x : Task) → WellFormed s → s .header .aca ≡ Clear
-    → named (s .header .aca) (s .header .run) (s .tasks) ≡ some x → headTask x ≡ true → first enabledHead (s .tasks) ≡ some x
-unfolding named
+    → whoseTurn (s .header .aca) (s .header .run) (s .tasks) ≡ some x → headTask x ≡ true → first enabledHead (s .tasks) ≡ some x
+unfolding whoseTurn
 named-head-oldest s x w c n h = go (s .tasks) (rw c at n) (clear-settled s w c)
   where
-    go : (ts : List Task) → named Clear (s .header .run) ts ≡ some x → settled [] ts ≡ true → first enabledHead ts ≡ some x
+    go : (ts : List Task) → whoseTurn Clear (s .header .run) ts ≡ some x → settled [] ts ≡ true → first enabledHead ts ≡ some x
     go [] k e = none-some x k
     go (u ∷ us) k e = named-cases (s .header .run) u us x e k (λ a b. a) (λ b y. not-both h (rw b at y))

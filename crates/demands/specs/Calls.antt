@@ -1,11 +1,11 @@
 -- Runs over bytes: what the port driver lends, call after call, and what the rules say of it.
 --
---   Move                := the event bytes and the report buffer that one call of apply is lent, whatever they hold and however long they are
+--   Call                := the event bytes and the report buffer that one call of apply is lent, whatever they hold and however long they are
 --   applied t m         := what that call gives on the table t
 --   tableBy t ms        := the table after the calls ms
 --   heard m             := the event of a call, as a list of one or none: none where apply answers 2 or 3, and the rules are not asked
 --   eventsIn ms         := the events of ms that the rules are asked
---   taskIn o            := the task of a COMMAND, as a list of one or none: none of any other event
+--   commandTask o            := the task of a COMMAND, as a list of one or none: none of any other event
 --   opened p            := a started table under the policy p
 --   expected s m        := what the rules say of a call, in the state s
 use Prim.Native.Nat.{ℕ}
@@ -17,19 +17,19 @@ use Rattle.rules.specs.Rulings.{State, fresh}
 use Rattle.rules.specs.Rules.{newTask, step, answer, report}
 use Rattle.records.specs.Tables.{reportSize, tableBytes, reportBytes}
 use Rattle.records.specs.Events.{eventOf}
-use Rattle.operations.specs.Answers.{writesReport}
+use Rattle.operations.specs.AnswerNumbers.{writesReport}
 use Rattle.operations.specs.Operations.{Outcome, refused, outcome}
 use Rattle.rules.specs.Types.{Task, Event, Command, Completion, Management, Condition, Policy, BadReport, BadEvent}
 use Rattle.records.specs.declared.events.EventRead.{EventRead, the-variants.Readable, the-variants.Unreadable}
 
-pub record Move : Type 0 where
+pub record Call : Type 0 where
   pub event : List ℕ
   pub report : List ℕ
 
-abbrev pub applied : List ℕ → Move → Outcome
+abbrev pub applied : List ℕ → Call → Outcome
 applied t m = outcome t (m .report) (m .event)
 
-abbrev pub tableBy : List ℕ → List Move → List ℕ
+abbrev pub tableBy : List ℕ → List Call → List ℕ
 tableBy t [] = t
 tableBy t (m ∷ ms) = tableBy ((applied t m) .table) ms
 
@@ -42,19 +42,19 @@ abbrev pub heardIf : Bool → EventRead → List Event
 heardIf true o = readIn o
 heardIf false o = []
 
-abbrev pub heard : Move → List Event
+abbrev pub heard : Call → List Event
 heard m = heardIf (eqb (length (m .report)) reportSize) (eventOf (m .event))
 
-abbrev pub eventsIn : List Move → List Event
+abbrev pub eventsIn : List Call → List Event
 eventsIn [] = []
 eventsIn (m ∷ ms) = heard m ++ eventsIn ms
 
-abbrev pub taskIn : EventRead → List Task
-taskIn Unreadable = []
-taskIn (Readable (Command c)) = newTask c ∷ []
-taskIn (Readable (Completion n g f)) = []
-taskIn (Readable (Management n f)) = []
-taskIn (Readable (Condition c)) = []
+abbrev pub commandTask : EventRead → List Task
+commandTask Unreadable = []
+commandTask (Readable (Command c)) = newTask c ∷ []
+commandTask (Readable (Completion n g f)) = []
+commandTask (Readable (Management n f)) = []
+commandTask (Readable (Condition c)) = []
 
 unfoldable pub opened : Policy → List ℕ
 opened p = tableBytes (fresh p)
@@ -74,5 +74,5 @@ abbrev pub expectedIf : Bool → State → List ℕ → EventRead → Outcome
 expectedIf true s r o = expectedOn s r o
 expectedIf false s r o = refused BadReport (tableBytes s) r
 
-abbrev pub expected : State → Move → Outcome
+abbrev pub expected : State → Call → Outcome
 expected s m = expectedIf (eqb (length (m .report)) reportSize) s (m .report) (eventOf (m .event))
