@@ -9,7 +9,7 @@
 --   eventBytes v        := one record of the event v
 --   Spare a v           := a may stand for "first" in a record of v; asked only where v does not keep it
 --   IsEvent bytes       := the bytes are an event record, in the paper's words
-use Prim.Native.Nat.{ℕ, _+_, _*_, _/_, _%_, _<_}
+use Prim.Native.Nat.{ℕ, _+_, _*_, _<_}
 use mathlib.Core.Path.{_≡_}
 use mathlib.Core.Logic.{_⊎_}
 use mathlib.Core.Bool.{Bool, true, false, cond, _||_, _&&_}
@@ -18,8 +18,8 @@ use lib.Dec.{eqb, ltb}
 use lib.ListN.{length, getD}
 use Rattle.rules.specs.Types.{Asked, Entry, Finish, Function, Happening, Event}
 use Rattle.records.specs.Types.{EventRead}
-use Rattle.records.specs.Numbers.{flag, bitOf, tagFrom, attributeNumber, attributeFits, attributeFrom}
-use Rattle.records.specs.Records.{marked}
+use Rattle.records.specs.Numbers.{flag, bitOf, tagIn, tagBytes, attributeNumber, attributeFits, attributeFrom}
+use Rattle.records.specs.Records.{eventSize, marked}
 
 -- Reading ----------------------------------------------------------------------------------------------------------------------------------
 
@@ -67,15 +67,15 @@ eventFrom k n a b g =
 
 unfoldable pub eventOf : List ℕ → EventRead
 eventOf e =
-    cond (eqb (length e) 8 && marked e 0x56)
-    (eventFrom (getD e 2 0) (getD e 3 0) (getD e 4 0) (getD e 5 0) (tagFrom (getD e 6 0) (getD e 7 0)))
+    cond (eqb (length e) eventSize && marked e 0x56)
+    (eventFrom (getD e 2 0) (getD e 3 0) (getD e 4 0) (getD e 5 0) (tagIn e))
     EventRead.Unreadable
 
 -- Writing ----------------------------------------------------------------------------------------------------------------------------------
 
 -- "event | 54 56 | kind; nexus; first; second; tag"; "Tags are big-endian."
 abbrev pub eventLine : ℕ → ℕ → ℕ → ℕ → ℕ → List ℕ
-eventLine k n a b g = 0x54 ∷ 0x56 ∷ k ∷ n ∷ a ∷ b ∷ g / 256 ∷ g % 256 ∷ []
+eventLine k n a b g = 0x54 ∷ 0x56 ∷ k ∷ n ∷ a ∷ b ∷ tagBytes g
 
 -- "first is the attribute, any byte": of one that is none of the four the event does not keep which
 abbrev pub askedNumber : ℕ → Asked → ℕ

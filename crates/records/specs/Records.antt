@@ -1,27 +1,22 @@
 -- The records of document 01, "Bytes": written, read, and tested.
 --
---   headSize, nexusSize, taskSize  := the widths of the records
---   marked                := passed on from bytes/specs/Bytes
---   headerBytes h, nexusBytes i p, taskBytes t, unusedBytes, endedBytes e   := the record of a value
+--   headSize, nexusSize, taskSize, endedSize, eventSize  := the widths of the records, passed on from octets/specs/Sizes
+--   marked                := passed on from octets/specs/Bytes
+--   headerBytes h, nexusBytes i p c, taskBytes t, unusedBytes, endedBytes e   := the record of a value
 --   headerFrom r, pendingIn r, taskFrom r   := the value of a record; of one that the tests refuse, any
 --   headerFits r, nexusFits i r, taskFits r, unusedFits r   := the record is one of its kind, field by field
-use Prim.Native.Nat.{ℕ, _/_, _%_}
+use Prim.Native.Nat.{ℕ}
 use mathlib.Core.Bool.{Bool, _&&_}
 use mathlib.Core.List.{List, [], _∷_}
 use lib.Dec.{eqb, ltb, leb}
 use lib.ListN.{getD}
 pub use Rattle.octets.specs.Bytes.{marked}
+pub use Rattle.octets.specs.Sizes.{headSize, nexusSize, taskSize, endedSize, eventSize}
+use Rattle.octets.specs.Sizes.{policyOffset, countOffset, acaOffset, runOffset, pendingOffset, nexusOffset, attributeOffset, stateOffset, controlOffset}
+use Rattle.values.specs.Headers.{mostRun}
+use Rattle.rules.specs.Tasks.{places, nexuses}
 use Rattle.rules.specs.Types.{Task, Header, Pending, Ended}
-use Rattle.records.specs.Numbers.{flag, tagFrom, attributeNumber, attributeFits, attributeFrom, stateNumber, stateFits, stateFrom, acaNumber, acaFrom, policyNumber, policyFits, policyFrom, pendingNumber, pendingFits, pendingFrom}
-
-abbrev pub headSize : ℕ
-headSize = 8
-
-abbrev pub nexusSize : ℕ
-nexusSize = 8
-
-abbrev pub taskSize : ℕ
-taskSize = 8
+use Rattle.records.specs.Numbers.{flag, tagIn, tagBytes, attributeNumber, attributeFits, attributeFrom, stateNumber, stateFits, stateFrom, acaNumber, acaFrom, policyNumber, policyFits, policyFrom, pendingNumber, pendingFits, pendingFrom}
 
 -- "header | 54 48 | 01; policy; task count 0 to 64; ACA: 0 or 1 + faulted nexus; run 0 to 4; 0"
 abbrev pub headerBytes : Header → List ℕ
@@ -29,23 +24,30 @@ headerBytes h = 0x54 ∷ 0x48 ∷ 1 ∷ policyNumber (h .policy) ∷ h .count �
 
 abbrev pub headerFrom : List ℕ → Header
 headerFrom r =
-    record { policy = policyFrom (getD r 3 0); count = getD r 4 0; aca = acaFrom (getD r 5 0); run = getD r 6 0 }
+    record {
+      policy = policyFrom (getD r policyOffset 0);
+      count = getD r countOffset 0;
+      aca = acaFrom (getD r acaOffset 0);
+      run = getD r runOffset 0;
+    }
 
 abbrev pub headerFits : List ℕ → Bool
 headerFits r =
-    marked r 0x48 && eqb (getD r 2 0) 1 && policyFits (getD r 3 0) && leb (getD r 4 0) 64 && leb (getD r 5 0) 8 && leb (getD r 6 0) 4
+    marked r 0x48 && eqb (getD r 2 0) 1 && policyFits (getD r policyOffset 0) && leb (getD r countOffset 0) places
+    && leb (getD r acaOffset 0) nexuses
+    && leb (getD r runOffset 0) mostRun
     && eqb (getD r 7 0) 0
 
--- "nexus | 54 4E | nexus; pending bits; 0 0 0 0"
-abbrev pub nexusBytes : ℕ → Pending → List ℕ
-nexusBytes i p = 0x54 ∷ 0x4E ∷ i ∷ pendingNumber p ∷ 0 ∷ 0 ∷ 0 ∷ 0 ∷ []
+-- "nexus | 54 4E | nexus; pending bits; 0 0 0 0": the first of the four bytes is a parameter, so that laws hold whatever a table has there
+abbrev pub nexusBytes : ℕ → Pending → ℕ → List ℕ
+nexusBytes i p c = 0x54 ∷ 0x4E ∷ i ∷ pendingNumber p ∷ c ∷ 0 ∷ 0 ∷ 0 ∷ []
 
 abbrev pub pendingIn : List ℕ → Pending
-pendingIn r = pendingFrom (getD r 3 0)
+pendingIn r = pendingFrom (getD r pendingOffset 0)
 
 abbrev pub nexusFits : ℕ → List ℕ → Bool
 nexusFits i r =
-    marked r 0x4E && eqb (getD r 2 0) i && pendingFits (getD r 3 0) && eqb (getD r 4 0) 0 && eqb (getD r 5 0) 0 && eqb (getD r 6 0) 0
+    marked r 0x4E && eqb (getD r 2 0) i && pendingFits (getD r pendingOffset 0) && eqb (getD r 4 0) 0 && eqb (getD r 5 0) 0 && eqb (getD r 6 0) 0
     && eqb (getD r 7 0) 0
 
 -- "task | 54 54 | nexus; attribute; state; control (bit 0 NACA); tag, 2 bytes"; "Tags are big-endian."
@@ -57,24 +59,23 @@ taskBytes t =
     ∷ attributeNumber (t .attribute)
     ∷ stateNumber (t .state)
     ∷ flag (t .naca)
-    ∷ t .tag / 256
-    ∷ t .tag % 256
-    ∷ []
+    ∷ tagBytes (t .tag)
 
 abbrev pub taskFrom : List ℕ → Task
 taskFrom r =
     record {
-      nexus = getD r 2 0;
-      attribute = attributeFrom (getD r 3 0);
-      state = stateFrom (getD r 4 0);
-      naca = eqb (getD r 5 0) 1;
-      tag = tagFrom (getD r 6 0) (getD r 7 0);
+      nexus = getD r nexusOffset 0;
+      attribute = attributeFrom (getD r attributeOffset 0);
+      state = stateFrom (getD r stateOffset 0);
+      naca = eqb (getD r controlOffset 0) 1;
+      tag = tagIn r;
     }
 
 -- "A task's nexus is 0 to 7."; "Bits 1 to 7 of a task's control byte are 0."
 abbrev pub taskFits : List ℕ → Bool
 taskFits r =
-    marked r 0x54 && ltb (getD r 2 0) 8 && attributeFits (getD r 3 0) && stateFits (getD r 4 0) && ltb (getD r 5 0) 2
+    marked r 0x54 && ltb (getD r nexusOffset 0) nexuses && attributeFits (getD r attributeOffset 0) && stateFits (getD r stateOffset 0)
+    && ltb (getD r controlOffset 0) 2
 
 -- "Unused ones are 54 54 and six zeros."
 abbrev pub unusedBytes : List ℕ
@@ -87,4 +88,4 @@ unusedFits r =
 
 -- "ended | 54 45 | nexus; status; 0 0; tag"
 abbrev pub endedBytes : Ended → List ℕ
-endedBytes e = 0x54 ∷ 0x45 ∷ e .nexus ∷ e .status ∷ 0 ∷ 0 ∷ e .tag / 256 ∷ e .tag % 256 ∷ []
+endedBytes e = 0x54 ∷ 0x45 ∷ e .nexus ∷ e .status ∷ 0 ∷ 0 ∷ tagBytes (e .tag)

@@ -1,14 +1,14 @@
 -- The table and the report as bytes (document 01, "Bytes").
 --
 --   Bytes l                  := every element of l is below 256
---   tableSize, reportSize    := 584 and 512 bytes
---   nexusesAt, tasksAt       := where the nexus records and the task records begin
+--   tableSize, reportSize, nexusesAt, tasksAt  := passed on from octets/specs/Sizes
 --   tasksFrom n l            := the tasks of the first n task records of l
 --   pendingsFrom n l         := the pending bits of the first n nexus records of l
 --   stateOf b                := the state that a table says
---   nexusRecords i ps        := the records of nexus i and above
+--   nexusRecords cs i ps     := the records of nexus i and above, with cs j in byte 4 of that of nexus j
 --   unusedRecords n          := n unused task records
---   tableBytes s             := the table of a state
+--   tableWith cs s           := the table of a state, with cs j in byte 4 of the record of nexus j
+--   countsOf s, tableBytes s := what stands there; the table of a state
 --   reportBytes es           := the report of the ended tasks
 --   GoodTable b              := the table is well formed, in the paper's words
 --   goodTable b              := the test of it
@@ -19,26 +19,16 @@ use mathlib.Core.List.{List, [], _∷_, _++_}
 use lib.Dec.{eqb}
 use lib.ListN.{length, getD, take, drop, replicate}
 use Rattle.laws.specs.RecordsInLists.{recordAt, joined}
+pub use Rattle.octets.specs.Sizes.{nexusesAt, tasksAt, tableSize, reportSize}
+use Rattle.octets.specs.Sizes.{countOffset}
 use Rattle.rules.specs.Tasks.{places, nexuses}
 use Rattle.rules.specs.Rulings.{State}
 use Rattle.rules.specs.Well.{WellFormed, wellFormed}
-use Rattle.records.specs.Records.{headSize, nexusSize, taskSize, headerBytes, headerFrom, headerFits, nexusBytes, pendingIn, nexusFits, taskBytes, taskFrom, taskFits, unusedBytes, unusedFits, endedBytes}
+use Rattle.records.specs.Records.{headSize, nexusSize, taskSize, endedSize, headerBytes, headerFrom, headerFits, nexusBytes, pendingIn, nexusFits, taskBytes, taskFrom, taskFits, unusedBytes, unusedFits, endedBytes}
 use Rattle.rules.specs.Types.{Task, Pending, Ended}
 
 abbrev pub Bytes : List ℕ → Type 0
 Bytes l = (i : ℕ) → getD l i 0 < 256
-
-abbrev pub tableSize : ℕ
-tableSize = 584
-
-abbrev pub reportSize : ℕ
-reportSize = 512
-
-abbrev pub nexusesAt : ℕ
-nexusesAt = 8
-
-abbrev pub tasksAt : ℕ
-tasksAt = 72
 
 -- Reading ----------------------------------------------------------------------------------------------------------------------------------
 
@@ -51,7 +41,7 @@ pendingsFrom zero l = []
 pendingsFrom (suc n) l = pendingIn (take nexusSize l) ∷ pendingsFrom n (drop nexusSize l)
 
 abbrev pub countIn : List ℕ → ℕ
-countIn b = getD b 4 0
+countIn b = getD b countOffset 0
 
 -- "header, 8 nexus records in order 0 to 7, 64 task records"; "Used task records come first, oldest first."
 unfoldable pub stateOf : List ℕ → State
@@ -64,9 +54,9 @@ stateOf b =
 
 -- Writing ----------------------------------------------------------------------------------------------------------------------------------
 
-unfoldable pub nexusRecords : ℕ → List Pending → List ℕ
-nexusRecords i [] = []
-nexusRecords i (p ∷ ps) = nexusBytes i p ++ nexusRecords (suc i) ps
+unfoldable pub nexusRecords : (ℕ → ℕ) → ℕ → List Pending → List ℕ
+nexusRecords cs i [] = []
+nexusRecords cs i (p ∷ ps) = nexusBytes i p (cs i) ++ nexusRecords cs (suc i) ps
 
 unfoldable pub unusedRecords : ℕ → List ℕ
 unusedRecords zero = []
@@ -75,21 +65,28 @@ unusedRecords (suc n) = unusedBytes ++ unusedRecords n
 abbrev pub taskRecords : List Task → List ℕ
 taskRecords ts = joined taskBytes ts ++ unusedRecords (places - length ts)
 
+unfoldable pub tableWith : (ℕ → ℕ) → State → List ℕ
+tableWith cs s = headerBytes (s .header) ++ (nexusRecords cs 0 (s .pending) ++ taskRecords (s .tasks))
+
+-- "nexus; pending bits; 0 0 0 0"
+abbrev pub countsOf : State → ℕ → ℕ
+countsOf s j = 0
+
 unfoldable pub tableBytes : State → List ℕ
-tableBytes s = headerBytes (s .header) ++ (nexusRecords 0 (s .pending) ++ taskRecords (s .tasks))
+tableBytes s = tableWith (countsOf s) s
 
 -- "Report: 512 bytes, the tasks ended by this event in their former age order, then zeros to the end."
 unfoldable pub reportBytes : List Ended → List ℕ
-reportBytes es = joined endedBytes es ++ replicate (reportSize - taskSize * length es) 0
+reportBytes es = joined endedBytes es ++ replicate (reportSize - endedSize * length es) 0
 
 -- Well formed ------------------------------------------------------------------------------------------------------------------------------
 
 pub record GoodTable (b : List ℕ) : Type 0 where
-  pub long : length b ≡ 584
+  pub long : length b ≡ tableSize
   pub header : headerFits (recordAt headSize b 0) ≡ true
-  pub nexus : (i : ℕ) → i < 8 → nexusFits i (recordAt nexusSize b (nexusesAt + nexusSize * i)) ≡ true
+  pub nexus : (i : ℕ) → i < nexuses → nexusFits i (recordAt nexusSize b (nexusesAt + nexusSize * i)) ≡ true
   pub used : (i : ℕ) → i < countIn b → taskFits (recordAt taskSize b (tasksAt + taskSize * i)) ≡ true
-  pub unused : (i : ℕ) → countIn b ≤ i → i < 64 → unusedFits (recordAt taskSize b (tasksAt + taskSize * i)) ≡ true
+  pub unused : (i : ℕ) → countIn b ≤ i → i < places → unusedFits (recordAt taskSize b (tasksAt + taskSize * i)) ≡ true
   pub well : WellFormed (stateOf b)
 
 unfoldable pub nexusesFit : ℕ → ℕ → List ℕ → Bool

@@ -2,9 +2,10 @@
 use crate::tasks::attribute_fits;
 use crate::tasks::attribute_from;
 use octets::bit_of;
-use octets::get8;
-use octets::is_marked;
-use octets::tag_from;
+use octets::is_mark;
+use octets::sizes::EVENT_SIZE;
+use octets::tag_in;
+use octets::tagged::get_tagged;
 use values::Asked;
 use values::Entry;
 use values::Event;
@@ -129,12 +130,12 @@ fn event_from(k: u8, n: u8, a: u8, b: u8, g: Tag) -> EventRead
 pub fn event_of(e: &[u8]) -> EventRead
     ensures { λ y. ⌜ y ≡ eventOf (now (e .entry)) ⌝ }
 {
-    if e.len() != 8 {
+    if e.len() != EVENT_SIZE {
         return EventRead::Unreadable;
     }
-    let r = get8(e, 0);
-    if !is_marked(r, 0x56) {
+    let r = get_tagged(e, 0);
+    if !is_mark(r[0], r[1], 0x56) {
         return EventRead::Unreadable;
     }
-    event_from(r[2], r[3], r[4], r[5], tag_from(r[6], r[7]))
+    event_from(r[2], r[3], r[4], r[5], tag_in(r))
 }

@@ -1,9 +1,16 @@
 // The header record.
 use octets::bit_of;
 use octets::flag_byte;
-use octets::is_marked;
+use octets::is_mark;
+use octets::sizes::ACA_OFFSET;
+use octets::sizes::COUNT_OFFSET;
+use octets::sizes::HEAD_SIZE;
+use octets::sizes::POLICY_OFFSET;
+use octets::sizes::RUN_OFFSET;
 use values::Allegiance;
 use values::Header;
+use values::MOST_TASKS;
+use values::NEXUS_BOUND;
 use values::Policy;
 use values::Qerr;
 ghost use mathlib.Core.Path.{_≡_};
@@ -75,30 +82,30 @@ pub fn aca_number(a: Allegiance) -> u8
     }
 }
 
-pub fn header_fits(r: [u8; 8]) -> bool
+pub fn header_fits(r: [u8; HEAD_SIZE]) -> bool
     ensures { λ y. ⌜ y ≡ headerFits r ⌝ }
 {
-    is_marked(r, 0x48)
+    is_mark(r[0], r[1], 0x48)
         & (r[2] == 1)
-        & policy_fits(r[3])
-        & (r[4] <= 64)
-        & (r[5] <= 8)
-        & (r[6] <= 4)
+        & policy_fits(r[POLICY_OFFSET])
+        & (r[COUNT_OFFSET] <= MOST_TASKS)
+        & (r[ACA_OFFSET] <= NEXUS_BOUND)
+        & (r[RUN_OFFSET] <= 4)
         & (r[7] == 0)
 }
 
-pub fn header_from(r: [u8; 8]) -> Header
+pub fn header_from(r: [u8; HEAD_SIZE]) -> Header
     ensures { λ y. ⌜ y ≡ headerFrom r ⌝ }
 {
     Header {
-        policy: policy_from(r[3]),
-        count: r[4],
-        aca: aca_from(r[5]),
-        run: r[6],
+        policy: policy_from(r[POLICY_OFFSET]),
+        count: r[COUNT_OFFSET],
+        aca: aca_from(r[ACA_OFFSET]),
+        run: r[RUN_OFFSET],
     }
 }
 
-pub fn header_bytes(h: Header) -> [u8; 8]
+pub fn header_bytes(h: Header) -> [u8; HEAD_SIZE]
     requires { ⌜ faultFits (h .aca) ≡ true ⌝ }
     ensures { λ y. ⌜ y ≡ headerBytes h ⌝ }
 {

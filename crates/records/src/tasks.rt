@@ -1,11 +1,18 @@
 // Task records, used and unused, and ended ones.
 use octets::flag_byte;
-use octets::is_marked;
-use octets::tag_from;
+use octets::is_mark;
+use octets::sizes::ATTRIBUTE_OFFSET;
+use octets::sizes::CONTROL_OFFSET;
+use octets::sizes::ENDED_SIZE;
+use octets::sizes::NEXUS_OFFSET;
+use octets::sizes::STATE_OFFSET;
+use octets::sizes::TASK_SIZE;
 use octets::tag_high;
+use octets::tag_in;
 use octets::tag_low;
 use octets::word_of;
 use values::Attribute;
+use values::NEXUS_BOUND;
 use values::Tag;
 use values::Task;
 use values::TaskState;
@@ -68,25 +75,29 @@ pub fn state_number(s: TaskState) -> u8
     }
 }
 
-pub fn task_fits(r: [u8; 8]) -> bool
+pub fn task_fits(r: [u8; TASK_SIZE]) -> bool
     ensures { λ y. ⌜ y ≡ taskFits r ⌝ }
 {
-    is_marked(r, 0x54) & (r[2] < 8) & attribute_fits(r[3]) & state_fits(r[4]) & (r[5] < 2)
+    is_mark(r[0], r[1], 0x54)
+        & (r[NEXUS_OFFSET] < NEXUS_BOUND)
+        & attribute_fits(r[ATTRIBUTE_OFFSET])
+        & state_fits(r[STATE_OFFSET])
+        & (r[CONTROL_OFFSET] < 2)
 }
 
-pub fn task_from(r: [u8; 8]) -> Task
+pub fn task_from(r: [u8; TASK_SIZE]) -> Task
     ensures { λ y. ⌜ y ≡ taskFrom r ⌝ }
 {
     Task {
-        nexus: r[2],
-        attribute: attribute_from(r[3]),
-        state: state_from(r[4]),
-        naca: r[5] == 1,
-        tag: tag_from(r[6], r[7]),
+        nexus: r[NEXUS_OFFSET],
+        attribute: attribute_from(r[ATTRIBUTE_OFFSET]),
+        state: state_from(r[STATE_OFFSET]),
+        naca: r[CONTROL_OFFSET] == 1,
+        tag: tag_in(r),
     }
 }
 
-pub fn task_bytes(t: Task) -> [u8; 8]
+pub fn task_bytes(t: Task) -> [u8; TASK_SIZE]
     ensures { λ y. ⌜ y ≡ taskBytes t ⌝ }
 {
     let a = t.attribute;
@@ -104,20 +115,20 @@ pub fn task_bytes(t: Task) -> [u8; 8]
 }
 
 // 0 where the record is an unused one. As a number, so that of many records the compiler looks at several at once.
-pub fn unlike_unused(r: [u8; 8]) -> u64
+pub fn unlike_unused(r: [u8; TASK_SIZE]) -> u64
     ensures { λ d. ⌜ eqb d 0 ≡ unusedFits r ⌝ }
 {
     word_of(r) ^ 0x5454
 }
 
-pub fn unused_bytes() -> [u8; 8]
+pub fn unused_bytes() -> [u8; TASK_SIZE]
     ensures { λ y. ⌜ y ≡ unusedBytes ⌝ }
 {
     [0x54, 0x54, 0, 0, 0, 0, 0, 0]
 }
 
 // The ended record of a task, by its nexus, the status to send and its tag.
-pub fn ended_bytes(n: u8, status: u8, g: Tag) -> [u8; 8]
+pub fn ended_bytes(n: u8, status: u8, g: Tag) -> [u8; ENDED_SIZE]
     ensures { λ y. ⌜ y ≡ endedBytes (record { nexus = n; status = status; tag = g }) ⌝ }
 {
     [0x54, 0x45, n, status, 0, 0, tag_high(g), tag_low(g)]

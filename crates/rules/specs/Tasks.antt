@@ -2,7 +2,7 @@
 -- Document 01, "Bytes" (attributes, states, Eligible), "Ends, ACA and aborts" (the states) and "Turn rule" (what a turn does to run is in
 -- values/specs/Headers); 002, clause 8.6.
 --
---   places, nexuses             := 64 tasks, 8 nexuses
+--   places, nexuses             := 64 tasks, 8 nexuses; passed on from values/specs/Limits
 --   isHead, isPlain, isAca a    := the attribute is HEAD OF QUEUE; SIMPLE or ORDERED; ACA
 --   isEnabled st, enabledTask t := the state, or the task, is enabled
 --   acaTask, enabledHead, enabledPlain t   := the task has attribute ACA; is enabled and HEAD OF QUEUE; is enabled and SIMPLE or ORDERED
@@ -19,14 +19,9 @@ use mathlib.Core.List.{List, [], _∷_, map}
 use mathlib.Core.Option.{Option, none, some}
 use lib.Dec.{eqb, ltb}
 use Rattle.laws.specs.Lists.{any, first}
+pub use Rattle.values.specs.Limits.{places, nexuses}
 use Rattle.values.specs.Headers.{mostRun}
 use Rattle.rules.specs.Types.{Attribute, TaskState, Task, Allegiance, Turn}
-
-abbrev pub places : ℕ
-places = 64
-
-abbrev pub nexuses : ℕ
-nexuses = 8
 
 abbrev pub isHead : Attribute → Bool
 isHead Attribute.Simple = false

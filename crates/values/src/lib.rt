@@ -2,6 +2,17 @@
 // under their short paths: the prover spells out each type's path wherever a variable of it is, which was up to a tenth of a crate's check.
 mod headers;
 
+// ---- How many there are at most (document 01, "Bytes"); specs/Limits.antt has the same numbers for contracts and laws.
+
+pub const NEXUSES: usize = 8;
+
+pub const PLACES: usize = 64;
+
+// As bytes: a nexus is below the first, a task count at most the second.
+pub const NEXUS_BOUND: u8 = 8;
+
+pub const MOST_TASKS: u8 = 64;
+
 // ---- A task in the set (document 01, "Bytes").
 
 // Document 01 gives tags two bytes; this is the one place that says so to the rules.

@@ -1,0 +1,87 @@
+-- How long the records are, and where they and their fields stand (document 01, "Bytes"). src/sizes.rt has the same numbers for code, and no other
+-- file says them.
+--
+--   untaggedSize, taggedSize  := the width of a header or nexus record; of one that names a task: a task, ended or event record
+--   headSize, nexusSize, taskSize, endedSize, eventSize   := the widths by kind
+--   nexusesAt, tasksAt        := where the nexus records and the task records begin in a table
+--   tableSize, reportSize     := how long a table and a report are
+--   policyOffset, countOffset, acaOffset, runOffset  := where the header record has policy, task count, ACA and run
+--   pendingOffset, pendingsAt  := where a nexus record has the pending bits; where the first does, in a table
+--   nexusOffset, attributeOffset, stateOffset, controlOffset  := where a task record has nexus, attribute, state and control
+--   attributesAt, statesAt    := where the first task record of a table has attribute and state
+use Prim.Native.Nat.{ℕ, _+_, _*_}
+use Rattle.values.specs.Limits.{places, nexuses}
+
+abbrev pub untaggedSize : ℕ
+untaggedSize = 8
+
+abbrev pub taggedSize : ℕ
+taggedSize = 8
+
+abbrev pub headSize : ℕ
+headSize = untaggedSize
+
+abbrev pub nexusSize : ℕ
+nexusSize = untaggedSize
+
+abbrev pub taskSize : ℕ
+taskSize = taggedSize
+
+abbrev pub endedSize : ℕ
+endedSize = taggedSize
+
+abbrev pub eventSize : ℕ
+eventSize = taggedSize
+
+-- "header, 8 nexus records in order 0 to 7, 64 task records"
+abbrev pub nexusesAt : ℕ
+nexusesAt = headSize
+
+abbrev pub tasksAt : ℕ
+tasksAt = nexusesAt + nexusSize * nexuses
+
+abbrev pub tableSize : ℕ
+tableSize = tasksAt + taskSize * places
+
+-- "Report: 512 bytes": room for an ended record of each task
+abbrev pub reportSize : ℕ
+reportSize = endedSize * places
+
+-- "header | 54 48 | 01; policy; task count 0 to 64; ACA: 0 or 1 + faulted nexus; run 0 to 4; 0"
+abbrev pub policyOffset : ℕ
+policyOffset = 3
+
+abbrev pub countOffset : ℕ
+countOffset = 4
+
+abbrev pub acaOffset : ℕ
+acaOffset = 5
+
+abbrev pub runOffset : ℕ
+runOffset = 6
+
+-- "nexus | 54 4E | nexus; pending bits; 0 0 0 0"
+abbrev pub pendingOffset : ℕ
+pendingOffset = 3
+
+abbrev pub pendingsAt : ℕ
+pendingsAt = nexusesAt + pendingOffset
+
+-- "task | 54 54 | nexus; attribute; state; control (bit 0 NACA); tag, 2 bytes"
+abbrev pub nexusOffset : ℕ
+nexusOffset = 2
+
+abbrev pub attributeOffset : ℕ
+attributeOffset = 3
+
+abbrev pub stateOffset : ℕ
+stateOffset = 4
+
+abbrev pub controlOffset : ℕ
+controlOffset = 5
+
+abbrev pub attributesAt : ℕ
+attributesAt = tasksAt + attributeOffset
+
+abbrev pub statesAt : ℕ
+statesAt = tasksAt + stateOffset
