@@ -12,13 +12,13 @@ abbrev pub tabled : ℕ → (ℕ → ℕ) → List ℕ
 tabled zero f = []
 tabled (suc n) f = f 0 ∷ tabled n (λ i. f (suc i))
 
-taken : (n : ℕ) (l : List ℕ) → n ≤ length l → take n l ≡ tabled n (λ i. getD l i 0)
-taken zero l h = refl
-taken (suc n) [] h = absurd (omega arith)
-taken (suc n) (x ∷ l) h = ap (λ (z : List ℕ). x ∷ z) (taken n l (omega arith))
+pub take-bytes : (n : ℕ) (l : List ℕ) → n ≤ length l → take n l ≡ tabled n (λ i. getD l i 0)
+take-bytes zero l h = refl
+take-bytes (suc n) [] h = absurd (omega arith)
+take-bytes (suc n) (x ∷ l) h = ap (λ (z : List ℕ). x ∷ z) (take-bytes n l (omega arith))
 
 pub record-bytes : (w : ℕ) (l : List ℕ) (at : ℕ) → at + w ≤ length l → recordAt w l at ≡ tabled w (λ i. getD l (at + i) 0)
-record-bytes w l at h = taken w (drop at l) (simp length-drop (omega arith)) ∙ simp getD-drop
+record-bytes w l at h = take-bytes w (drop at l) (simp length-drop (omega arith)) ∙ simp getD-drop
 
 -- of the record of b at a place the first k bytes are read into r
 pub record Loading (w : ℕ) (b : List ℕ) (at : ℕ) (r : List ℕ) (k : ℕ) : Type 0 where

@@ -12,11 +12,11 @@ use borrow.Author.Tests.{eqb-true, eqb-false, ne-eqb, ltb-true, lt-ltb, le-ltb}
 use Rattle.laws.proofs.Bools.{and-true, or-true, not-both, cases, split}
 use Rattle.rules.specs.Types.{Asked, Known, NoneOfFour, Finish, Good, CheckCondition, Function, AbortTask, AbortTaskSet, ClearTaskSet, ClearAca, LogicalUnitReset, Unknown, Happening, PowerOn, HardReset, NexusLoss, Event, Command, Completion, Management, Condition}
 use Rattle.records.specs.Types.{EventRead, Readable, Unreadable}
-use Rattle.records.specs.Numbers.{flag, bitOf, tagFrom, attributeFits}
-use Rattle.records.specs.Records.{marked}
+use Rattle.records.specs.Numbers.{flag, bitOf, tagIn, attributeFits}
+use Rattle.records.specs.Records.{eventSize, marked}
 use Rattle.records.specs.Tables.{Bytes}
 use Rattle.records.specs.Events.{readIf, askedFrom, commandFrom, finishFrom, completionFrom, functionFrom, managementFrom, happeningFrom, conditionFrom, eventFrom, eventOf, eventLine, askedNumber, secondNumber, finishNumber, functionNumber, functionTag, happeningNumber, happeningNexus, eventRecord, eventBytes, SpareAttribute, SpareFunction, Spare, IsEvent}
-use Rattle.octets.proofs.Eight.{record-bytes}
+use Rattle.octets.proofs.Widths.{record-bytes}
 use Rattle.records.proofs.Values.{attribute-back, attribute-good, attribute-fits, flag-good, tag-back, tag-high-good, tag-low-good}
 
 -- Written, then read -----------------------------------------------------------------------------------------------------------------------
@@ -203,42 +203,42 @@ event-line k n a b g v =
 -- what is read off a record, field by field, is what its event writes
 pub event-fields :
     (e : List ℕ) (v : Event) → eventOf e ≡ Readable v
-    → eventLine (getD e 2 0) (getD e 3 0) (getD e 4 0) (getD e 5 0) (tagFrom (getD e 6 0) (getD e 7 0))
-    ≡ eventRecord (getD e 4 0) (tagFrom (getD e 6 0) (getD e 7 0)) v
+    → eventLine (getD e 2 0) (getD e 3 0) (getD e 4 0) (getD e 5 0) (tagIn e)
+    ≡ eventRecord (getD e 4 0) (tagIn e) v
 unfolding eventOf
 event-fields e v =
     cases
     (λ (r : EventRead).
     r ≡ Readable v
-    → eventLine (getD e 2 0) (getD e 3 0) (getD e 4 0) (getD e 5 0) (tagFrom (getD e 6 0) (getD e 7 0))
-    ≡ eventRecord (getD e 4 0) (tagFrom (getD e 6 0) (getD e 7 0)) v)
-    (eqb (length e) 8 && marked e 0x56)
+    → eventLine (getD e 2 0) (getD e 3 0) (getD e 4 0) (getD e 5 0) (tagIn e)
+    ≡ eventRecord (getD e 4 0) (tagIn e) v)
+    (eqb (length e) eventSize && marked e 0x56)
     (λ q r. event-line _ _ _ _ _ v r .1)
     (λ q r. absurd (let z : _≡_ {A = ℕ} 0 1 = cc in omega arith))
 
 -- "Anything else is a bad event": every string of bytes that is read is the record of its event, with its own "first" and tag
 pub event-is-written :
     (e : List ℕ) (v : Event) → Bytes e → eventOf e ≡ Readable v
-    → Spare (getD e 4 0) v × (e ≡ eventRecord (getD e 4 0) (tagFrom (getD e 6 0) (getD e 7 0)) v)
+    → Spare (getD e 4 0) v × (e ≡ eventRecord (getD e 4 0) (tagIn e) v)
 unfolding eventOf
 event-is-written e v by =
-    cases (λ (r : EventRead). r ≡ Readable v → Spare a v × (e ≡ eventRecord a g v)) (eqb (length e) 8 && marked e 0x56)
+    cases (λ (r : EventRead). r ≡ Readable v → Spare a v × (e ≡ eventRecord a g v)) (eqb (length e) eventSize && marked e 0x56)
     (λ q r.
     let o = and-true _ _ q in
     let m = and-true _ _ (o .1) in
     let w = event-line (getD e 2 0) (getD e 3 0) a (getD e 5 0) g v r in
-    (w .0, bytes (eqb-true (length e) 8 (o .0)) (eqb-true (getD e 0 0) 0x54 (m .0)) (eqb-true (getD e 1 0) 0x56 (m .1)) ∙ w .1))
+    (w .0, bytes (eqb-true (length e) eventSize (o .0)) (eqb-true (getD e 0 0) 0x54 (m .0)) (eqb-true (getD e 1 0) 0x56 (m .1)) ∙ w .1))
     (λ q r. absurd (let z : _≡_ {A = ℕ} 0 1 = cc in omega arith))
   where
     a : ℕ
     a = getD e 4 0
 
     g : ℕ
-    g = tagFrom (getD e 6 0) (getD e 7 0)
+    g = tagIn e
 
-    bytes : length e ≡ 8 → getD e 0 0 ≡ 0x54 → getD e 1 0 ≡ 0x56 → e ≡ eventLine (getD e 2 0) (getD e 3 0) a (getD e 5 0) g
+    bytes : length e ≡ eventSize → getD e 0 0 ≡ 0x54 → getD e 1 0 ≡ 0x56 → e ≡ eventLine (getD e 2 0) (getD e 3 0) a (getD e 5 0) g
     bytes l m n =
-        sym (take-all 8 e (omega arith)) ∙ record-bytes 8 e 0 (omega arith)
+        sym (take-all eventSize e (omega arith)) ∙ record-bytes eventSize e 0 (omega arith)
         ∙ rw (m, n, tag-high-good (getD e 6 0) (getD e 7 0) (by 7), tag-low-good (getD e 6 0) (getD e 7 0) (by 7))
 
 -- "Anything else is a bad event, as is a length other than 8": answer 3 exactly where the bytes are no event record
@@ -254,5 +254,5 @@ bad-event-says e by = (to, λ h. from h (eventOf e) refl)
     from : (IsEvent e → ⊥) → (r : EventRead) → eventOf e ≡ r → eventOf e ≡ Unreadable
     from h (Readable v) q =
         let w = event-is-written e v by q in
-        absurd (h (record { event = v; first = getD e 4 0; tag = tagFrom (getD e 6 0) (getD e 7 0); spare = w .0; written = w .1 }))
+        absurd (h (record { event = v; first = getD e 4 0; tag = tagIn e; spare = w .0; written = w .1 }))
     from h Unreadable q = q

@@ -2,14 +2,17 @@
 use Prim.Native.Nat.{ℕ, zero, suc, _+_, _-_, _*_, _≤_}
 use mathlib.Core.Path.{_≡_, refl, ap, sym, _∙_}
 use mathlib.Core.List.{List, [], _∷_, _++_, append-assoc}
+use native.Mathlib.Nat.{mul-suc, mul-zero}
 use native.Mathlib.Omega.{arith}
-use lib.ListN.{length, getD, take, drop, length-append}
+use lib.ListN.{length, take, drop, length-append}
 use lib.Seq.{drop-drop, drop-at, take-at}
 use Rattle.laws.specs.RecordsInLists.{recordAt, joined}
+use Rattle.octets.specs.Sizes.{headSize, nexusSize, taskSize, tasksAt, tableSize}
+use Rattle.rules.specs.Tasks.{places, nexuses}
 use Rattle.rules.specs.Rulings.{State}
 use Rattle.rules.specs.Types.{Task, Pending}
 use Rattle.records.specs.Records.{headerBytes, headerFrom, taskBytes, taskFrom}
-use Rattle.records.specs.Tables.{tasksFrom, pendingsFrom, stateOf, nexusRecords, unusedRecords, taskRecords, tableBytes}
+use Rattle.records.specs.Tables.{tasksFrom, pendingsFrom, countIn, stateOf, nexusRecords, unusedRecords, taskRecords, tableWith, countsOf, tableBytes}
 use Rattle.records.proofs.Values.{attribute-back, state-back, flag-back, aca-back, policy-back, pending-back, tag-back}
 
 pub task-back : (t : Task) → taskFrom (taskBytes t) ≡ t
@@ -20,94 +23,99 @@ unfolding tasksFrom
 tasks-back [] rest = refl
 tasks-back (t ∷ ts) rest = rw (task-back t, tasks-back ts rest)
 
-pub pendings-back : (i : ℕ) (ps : List Pending) (rest : List ℕ) → pendingsFrom (length ps) (nexusRecords i ps ++ rest) ≡ ps
+pub pendings-back : (cs : ℕ → ℕ) (i : ℕ) (ps : List Pending) (rest : List ℕ) → pendingsFrom (length ps) (nexusRecords cs i ps ++ rest) ≡ ps
 unfolding pendingsFrom nexusRecords
-pendings-back i [] rest = refl
-pendings-back i (p ∷ ps) rest = rw (pending-back p, pendings-back (suc i) ps rest)
+pendings-back cs i [] rest = refl
+pendings-back cs i (p ∷ ps) rest = rw (pending-back p, pendings-back cs (suc i) ps rest)
 
 -- Lengths ----------------------------------------------------------------------------------------------------------------------------------
 
-pub length-nexuses : (i : ℕ) (ps : List Pending) → length (nexusRecords i ps) ≡ 8 * length ps
+pub length-nexuses : (cs : ℕ → ℕ) (i : ℕ) (ps : List Pending) → length (nexusRecords cs i ps) ≡ nexusSize * length ps
 unfolding nexusRecords
-length-nexuses i [] = refl
-length-nexuses i (p ∷ ps) = omega (arith, length-nexuses (suc i) ps)
+length-nexuses cs i [] = refl
+length-nexuses cs i (p ∷ ps) = omega (arith, length-nexuses cs (suc i) ps)
 
-pub length-unused : (n : ℕ) → length (unusedRecords n) ≡ 8 * n
+pub length-unused : (n : ℕ) → length (unusedRecords n) ≡ taskSize * n
 unfolding unusedRecords
 length-unused zero = refl
 length-unused (suc n) = omega (arith, length-unused n)
 
 -- as many bytes as values times the width
-pub length-joined : {A : Type 0} (W : A → List ℕ) → ((x : A) → length (W x) ≡ 8) → (xs : List A) → length (joined W xs) ≡ 8 * length xs
-length-joined W w [] = refl
-length-joined W w (x ∷ xs) = simp length-append (omega (arith, w x, length-joined W w xs))
+pub length-joined :
+    {A : Type 0} (w : ℕ) (W : A → List ℕ) → ((x : A) → length (W x) ≡ w) → (xs : List A) → length (joined W xs) ≡ w * length xs
+length-joined w W wide [] = sym (mul-zero w)
+length-joined w W wide (x ∷ xs) = simp length-append (rw mul-suc (omega (arith, wide x, length-joined w W wide xs)))
 
-pub length-tasks : (ts : List Task) → length ts ≤ 64 → length (taskRecords ts) ≡ 512
+pub length-tasks : (ts : List Task) → length ts ≤ places → length (taskRecords ts) ≡ taskSize * places
 length-tasks ts h =
-    simp length-append (omega (arith, length-joined taskBytes (λ t. refl) ts, length-unused (64 - length ts)))
+    simp length-append (omega (arith, length-joined taskSize taskBytes (λ t. refl) ts, length-unused (places - length ts)))
 
-pub length-table : (s : State) → length (s .pending) ≡ 8 → length (s .tasks) ≤ 64 → length (tableBytes s) ≡ 584
-unfolding tableBytes
-length-table s p t =
-    length-append (headerBytes (s .header)) (nexusRecords 0 (s .pending) ++ taskRecords (s .tasks))
-    ∙ rw (length-append (nexusRecords 0 (s .pending)) (taskRecords (s .tasks)), length-tasks (s .tasks) t, length-nexuses 0 (s .pending), p)
+-- The parts of a table, whatever its nexus records have in byte 4 ---------------------------------------------------------------------------
 
--- The parts of a table ---------------------------------------------------------------------------------------------------------------------
+pub length-table : (cs : ℕ → ℕ) (s : State) → length (s .pending) ≡ nexuses → length (s .tasks) ≤ places → length (tableWith cs s) ≡ tableSize
+unfolding tableWith
+length-table cs s p t =
+    length-append (headerBytes (s .header)) (nexusRecords cs 0 (s .pending) ++ taskRecords (s .tasks))
+    ∙ rw (length-append (nexusRecords cs 0 (s .pending)) (taskRecords (s .tasks)), length-tasks (s .tasks) t, length-nexuses cs 0 (s .pending), p)
 
-module _ (s : State) (eight : length (s .pending) ≡ 8) where
+module _ (cs : ℕ → ℕ) (s : State) where
+  pub table-behind-header : drop headSize (tableWith cs s) ≡ nexusRecords cs 0 (s .pending) ++ taskRecords (s .tasks)
+  unfolding tableWith
+  table-behind-header = refl
+
+  pub table-header : recordAt headSize (tableWith cs s) 0 ≡ headerBytes (s .header)
+  unfolding tableWith
+  table-header = refl
+
+  pub table-count : countIn (tableWith cs s) ≡ s .header .count
+  unfolding tableWith
+  table-count = refl
+
+module _ (cs : ℕ → ℕ) (s : State) (eight : length (s .pending) ≡ nexuses) where
   abbrev front : List ℕ
-  front = headerBytes (s .header) ++ nexusRecords 0 (s .pending)
+  front = headerBytes (s .header) ++ nexusRecords cs 0 (s .pending)
 
-  front-long : length front ≡ 72
-  front-long = omega (arith, length-nexuses 0 (s .pending))
+  front-long : length front ≡ tasksAt
+  front-long = omega (arith, length-nexuses cs 0 (s .pending))
 
-  front-and-tasks : tableBytes s ≡ front ++ taskRecords (s .tasks)
-  unfolding tableBytes
-  front-and-tasks = sym (append-assoc (headerBytes (s .header)) (nexusRecords 0 (s .pending)) (taskRecords (s .tasks)))
+  front-and-tasks : tableWith cs s ≡ front ++ taskRecords (s .tasks)
+  unfolding tableWith
+  front-and-tasks = sym (append-assoc (headerBytes (s .header)) (nexusRecords cs 0 (s .pending)) (taskRecords (s .tasks)))
 
-  pub table-tasks : drop 72 (tableBytes s) ≡ taskRecords (s .tasks)
-  table-tasks = rw front-and-tasks (drop-at front (taskRecords (s .tasks)) 72 front-long)
+  pub table-tasks : drop tasksAt (tableWith cs s) ≡ taskRecords (s .tasks)
+  table-tasks = rw front-and-tasks (drop-at front (taskRecords (s .tasks)) tasksAt front-long)
 
-  pub table-front : take 72 (tableBytes s) ≡ headerBytes (s .header) ++ nexusRecords 0 (s .pending)
-  table-front = rw front-and-tasks (take-at front (taskRecords (s .tasks)) 72 front-long)
+  pub table-front : take tasksAt (tableWith cs s) ≡ headerBytes (s .header) ++ nexusRecords cs 0 (s .pending)
+  table-front = rw front-and-tasks (take-at front (taskRecords (s .tasks)) tasksAt front-long)
 
   -- behind the used records
-  pub behind-used : drop (72 + 8 * length (s .tasks)) (tableBytes s) ≡ unusedRecords (64 - length (s .tasks))
+  pub behind-used : drop (tasksAt + taskSize * length (s .tasks)) (tableWith cs s) ≡ unusedRecords (places - length (s .tasks))
   behind-used =
-      sym (drop-drop (8 * length (s .tasks)) 72 (tableBytes s))
-      ∙ ap (drop (8 * length (s .tasks))) table-tasks
-      ∙ drop-at (joined taskBytes (s .tasks)) (unusedRecords (64 - length (s .tasks))) (8 * length (s .tasks))
-      (length-joined taskBytes (λ t. refl) (s .tasks))
-
-pub table-behind-header : (s : State) → drop 8 (tableBytes s) ≡ nexusRecords 0 (s .pending) ++ taskRecords (s .tasks)
-unfolding tableBytes
-table-behind-header s = refl
-
-pub table-header : (s : State) → recordAt 8 (tableBytes s) 0 ≡ headerBytes (s .header)
-unfolding tableBytes
-table-header s = refl
-
-pub table-count : (s : State) → getD (tableBytes s) 4 0 ≡ s .header .count
-unfolding tableBytes
-table-count s = refl
+      sym (drop-drop (taskSize * length (s .tasks)) tasksAt (tableWith cs s))
+      ∙ ap (drop (taskSize * length (s .tasks))) table-tasks
+      ∙ drop-at (joined taskBytes (s .tasks)) (unusedRecords (places - length (s .tasks))) (taskSize * length (s .tasks))
+      (length-joined taskSize taskBytes (λ t. refl) (s .tasks))
 
 -- reading what was written gives the state back
 pub state-back-again :
-    (s : State) → s .header .count ≡ length (s .tasks) → length (s .pending) ≡ 8 → stateOf (tableBytes s) ≡ s
-unfolding stateOf
+    (s : State) → s .header .count ≡ length (s .tasks) → length (s .pending) ≡ nexuses → stateOf (tableBytes s) ≡ s
+unfolding stateOf tableBytes
 state-back-again s counted eight = λ i. record { header = head i; pending = pend i; tasks = tsk i }
   where
-    head : headerFrom (recordAt 8 (tableBytes s) 0) ≡ s .header
-    head = rw (table-header s) (rw (policy-back (s .header .policy), aca-back (s .header .aca)))
+    cs : ℕ → ℕ
+    cs = countsOf s
 
-    pend : pendingsFrom 8 (drop 8 (tableBytes s)) ≡ s .pending
+    head : headerFrom (recordAt headSize (tableWith cs s) 0) ≡ s .header
+    head = rw (table-header cs s) (rw (policy-back (s .header .policy), aca-back (s .header .aca)))
+
+    pend : pendingsFrom nexuses (drop headSize (tableWith cs s)) ≡ s .pending
     pend =
-        rw (table-behind-header s)
-        (ap (λ (n : ℕ). pendingsFrom n (nexusRecords 0 (s .pending) ++ taskRecords (s .tasks))) (sym eight)
-        ∙ pendings-back 0 (s .pending) (taskRecords (s .tasks)))
+        rw (table-behind-header cs s)
+        (ap (λ (n : ℕ). pendingsFrom n (nexusRecords cs 0 (s .pending) ++ taskRecords (s .tasks))) (sym eight)
+        ∙ pendings-back cs 0 (s .pending) (taskRecords (s .tasks)))
 
-    tsk : tasksFrom (getD (tableBytes s) 4 0) (drop 72 (tableBytes s)) ≡ s .tasks
+    tsk : tasksFrom (countIn (tableWith cs s)) (drop tasksAt (tableWith cs s)) ≡ s .tasks
     tsk =
-        ap (λ (n : ℕ). tasksFrom n (drop 72 (tableBytes s))) (table-count s ∙ counted)
-        ∙ ap (tasksFrom (length (s .tasks))) (table-tasks s eight)
-        ∙ tasks-back (s .tasks) (unusedRecords (64 - length (s .tasks)))
+        ap (λ (n : ℕ). tasksFrom n (drop tasksAt (tableWith cs s))) (table-count cs s ∙ counted)
+        ∙ ap (tasksFrom (length (s .tasks))) (table-tasks cs s eight)
+        ∙ tasks-back (s .tasks) (unusedRecords (places - length (s .tasks)))

@@ -5,19 +5,19 @@ use mathlib.Core.Path.{_≡_, refl, ap}
 use mathlib.Core.List.{List}
 use native.Mathlib.Omega.{arith}
 use lib.Dec.{eqb, ltb}
-use lib.ListN.{getD, take}
+use lib.ListN.{length, getD, take}
 use lib.Seq.{take-all}
 use borrow.Author.Tests.{eqb-true, eq-eqb, ltb-true, lt-ltb}
 use Rattle.laws.proofs.Bools.{and-true, same-truth}
 use Rattle.records.specs.Numbers.{pendingNumber}
-use Rattle.records.specs.Records.{nexusBytes, pendingIn, nexusFits, unusedBytes, unusedFits}
+use Rattle.records.specs.Records.{nexusSize, taskSize, nexusBytes, pendingIn, nexusFits, unusedBytes, unusedFits}
 use Rattle.octets.specs.Words.{IsWord}
 use Rattle.records.proofs.Values.{pending-fits}
 use Rattle.records.proofs.Good.{nexus-good, unused-good}
 
 module _ (r : List ℕ) (w : ℕ) (i : IsWord r w) where
-  whole : take 8 r ≡ r
-  whole = take-all 8 r (omega (arith, i .eight))
+  whole : (n : ℕ) → length r ≡ n → take n r ≡ r
+  whole n e = take-all n r (omega (arith, e))
 
   unused-alone : eqb w 0x5454 ≡ true → unusedFits r ≡ true
   unused-alone e =
@@ -38,7 +38,7 @@ module _ (r : List ℕ) (w : ℕ) (i : IsWord r w) where
   unused-word =
       same-truth _ (unusedFits r) unused-alone
       (λ e.
-      let written : unusedBytes ≡ r = (rw whole at (unused-good r (omega (arith, i .eight)))) e in
+      let written : unusedBytes ≡ r = (rw (whole taskSize (i .eight)) at (unused-good r (omega (arith, i .eight)))) e in
       eq-eqb w 0x5454 ((rw (← written) at i) .value))
 
   module _ (n : ℕ) (small : n < 256) where
@@ -63,8 +63,8 @@ module _ (r : List ℕ) (w : ℕ) (i : IsWord r w) where
     nexus-word =
         same-truth _ (nexusFits n r) nexus-alone
         (λ e.
-        let written : nexusBytes n (pendingIn r) ≡ r = (rw whole at (nexus-good r (omega (arith, i .eight)) n)) e in
-        let byte : (k : ℕ) → getD (nexusBytes n (pendingIn r)) k 0 ≡ getD r k 0 = λ k. ap (λ (z : List ℕ). getD z k 0) written in
+        let written : nexusBytes n (pendingIn r) 0 ≡ r = (rw (whole nexusSize (i .eight)) at (nexus-good r (omega (arith, i .eight)) n)) e in
+        let byte : (k : ℕ) → getD (nexusBytes n (pendingIn r) 0) k 0 ≡ getD r k 0 = λ k. ap (λ (z : List ℕ). getD z k 0) written in
         let five = ltb-true (pendingNumber (pendingIn r)) 32 (pending-fits (pendingIn r)) in
         let is : w ≡ 0x4E54 + 0x10000 * n + pendingNumber (pendingIn r) * 0x1000000 = omega (arith, i .value, byte 0, byte 1, byte 2, byte 3, byte 4, byte 5, byte 6, byte 7) in
         rw (lt-ltb w 0x20000000 (omega arith), eq-eqb (w % 0x1000000) (0x4E54 + 0x10000 * n) (omega arith)) refl)

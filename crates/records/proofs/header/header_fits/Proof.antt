@@ -6,12 +6,14 @@ pub header-fits-spec : {M : Type 1} → statement M
 header-fits-spec =
     tie.close
     (tie.spec
-    (λ c κs. search needs)
     (λ c. search needs)
     (λ c. search needs)
     (λ c κs. search needs)
     (λ c. search needs)
     (λ c. search needs)
+    (λ c κs. search needs)
     (λ c. search needs)
     (λ c. search needs)
-    (λ c. simp (c .policy-fits .ensures, c .before .is-marked .ensures)))
+    (λ c. search needs)
+    (λ c. search needs)
+    (λ c. simp (c .policy-fits .ensures, c .before .is-mark .ensures)))

@@ -6,11 +6,13 @@ pub task-fits-spec : {M : Type 1} → statement M
 task-fits-spec =
     tie.close
     (tie.spec
-    (λ c κs. search needs)
     (λ c. search needs)
     (λ c. search needs)
     (λ c κs. search needs)
     (λ c. search needs)
+    (λ c. search needs)
     (λ c κs. search needs)
     (λ c. search needs)
-    (λ c. simp (c .state-fits .ensures, c .before .attribute-fits .ensures, c .before .before .is-marked .ensures)))
+    (λ c κs. search needs)
+    (λ c. search needs)
+    (λ c. simp (c .state-fits .ensures, c .before .attribute-fits .ensures, c .before .before .is-mark .ensures)))

@@ -12,7 +12,5 @@ task-from-spec =
     (λ c. search needs)
     (λ c κs. search needs)
     (λ c. search needs)
-    (λ c. search needs)
-    (λ c. search needs)
     (λ c κs. search needs)
-    (λ c. simp (c .tag-from .ensures, c .before .state-from .ensures, c .before .before .attribute-from .ensures)))
+    (λ c. simp (c .tag-in .ensures, c .before .state-from .ensures, c .before .before .attribute-from .ensures)))
