@@ -9,6 +9,7 @@ use mathlib.Core.Path.{_≡_}
 use mathlib.Core.List.{List}
 use lib.ListN.{length}
 use Rattle.laws.specs.RecordsInLists.{recordAt, putAt}
+use Rattle.octets.specs.Sizes.{headSize, taskSize, tasksAt}
 use Rattle.rules.specs.Well.{faultFits}
 use Rattle.records.specs.Records.{headerBytes, taskBytes}
 use Rattle.steps.specs.Steps.{notedBytes}
@@ -25,11 +26,11 @@ notedUnlessQuiet PowerCameOn ls b = notedBytes PowerCameOn ls b
 
 abbrev pub joinedBytes : Joins → ℕ → List ℕ → List ℕ
 joinedBytes NoTask k b = b
-joinedBytes (NewTask t) k b = putAt 8 b (72 + 8 * k) (taskBytes t)
+joinedBytes (NewTask t) k b = putAt taskSize b (tasksAt + taskSize * k) (taskBytes t)
 
 pub record HeaderKept (t : List ℕ) (h : Header) : Type 0 where
-  pub long : 8 ≤ length t
+  pub long : headSize ≤ length t
   pub fault : faultFits (h .aca) ≡ true
   pub was : Header
-  pub stands : recordAt 8 t 0 ≡ headerBytes was
+  pub stands : recordAt headSize t 0 ≡ headerBytes was
   pub policy : was .policy ≡ h .policy

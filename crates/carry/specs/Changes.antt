@@ -4,6 +4,8 @@ use mathlib.Core.Path.{_≡_}
 use mathlib.Core.Bool.{true}
 use mathlib.Core.List.{List}
 use lib.ListN.{length}
+use Rattle.octets.specs.Sizes.{reportSize}
+use Rattle.rules.specs.Tasks.{places}
 use Rattle.rules.specs.Rulings.{ruled, reportOf}
 use Rattle.rules.specs.Well.{wellFormed}
 use Rattle.records.specs.Tables.{stateOf, tableBytes, reportBytes, goodTable}
@@ -11,7 +13,7 @@ use Rattle.rules.specs.Types.{Allegiance, Change, Done, Changes}
 
 pub record ChangeFits (t r : List ℕ) (n : ℕ) (before : Allegiance) (c : Change) : Type 0 where
   pub good : goodTable t ≡ true
-  pub report : length r ≡ 512
+  pub report : length r ≡ reportSize
   pub counted : n ≡ (stateOf t) .header .count
   pub aca : before ≡ (stateOf t) .header .aca
   pub policy : c .header .policy ≡ (stateOf t) .header .policy
@@ -21,4 +23,4 @@ pub record ChangedAs (t : List ℕ) (c : Change) (after rep : List ℕ) (m : ℕ
   pub table : after ≡ tableBytes (ruled (stateOf t) (Changes Done c))
   pub report : rep ≡ reportBytes (reportOf (stateOf t) (Changes Done c))
   pub ended : m ≡ length (reportOf (stateOf t) (Changes Done c))
-  pub few : m ≤ 64
+  pub few : m ≤ places

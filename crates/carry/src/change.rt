@@ -1,7 +1,12 @@
 // A ruling carried out on the lent bytes.
 use close::close_up;
 use note::note;
-use octets::put8;
+use octets::sizes::ACA_OFFSET;
+use octets::sizes::COUNT_OFFSET;
+use octets::sizes::RUN_OFFSET;
+use octets::sizes::TASK_SIZE;
+use octets::sizes::TASKS_AT;
+use octets::tagged::put_tagged;
 use records::header::aca_number;
 use records::tasks::task_bytes;
 use report::write_report;
@@ -17,6 +22,8 @@ ghost use mathlib.Core.Bool.{true};
 ghost use mathlib.Core.List.{[]};
 ghost use Prim.Native.Nat.{_+_, _≤_};
 ghost use lib.ListN.{length, drop};
+ghost use Rattle.octets.specs.Sizes.{headSize, tasksAt, tableSize};
+ghost use Rattle.rules.specs.Tasks.{places};
 ghost use Rattle.rules.specs.Rulings.{newcomers, ruled, reportOf};
 ghost use Rattle.rules.specs.Well.{wellFormed};
 ghost use Rattle.laws.specs.RecordsInLists.{putAt};
@@ -27,8 +34,8 @@ ghost use Rattle.carry.specs.Carrying.{notedUnlessQuiet, joinedBytes, He
 ghost use Rattle.carry.specs.Changes.{ChangeFits, ChangedAs};
 
 fn note_if(t: &mut [u8], n: usize, w: Sweep, k: Notice)
-    requires { ⌜ (length (now t) ≡ 584) × (n ≤ 64) ⌝ }
-    ensures { λ _. ⌜ now (t .exit) ≡ notedUnlessQuiet k (losers w n (drop 72 (now (t .entry)))) (now (t .entry)) ⌝ }
+    requires { ⌜ (length (now t) ≡ tableSize) × (n ≤ places) ⌝ }
+    ensures { λ _. ⌜ now (t .exit) ≡ notedUnlessQuiet k (losers w n (drop tasksAt (now (t .entry)))) (now (t .entry)) ⌝ }
 {
     match k {
         Notice::Quiet => {}
@@ -38,13 +45,13 @@ fn note_if(t: &mut [u8], n: usize, w: Sweep, k: Notice)
 
 // How many tasks there are then.
 fn join(t: &mut [u8], k: usize, j: Joins) -> usize
-    requires { ⌜ (length (now t) ≡ 584) × (k + length (newcomers j) ≤ 64) ⌝ }
+    requires { ⌜ (length (now t) ≡ tableSize) × (k + length (newcomers j) ≤ places) ⌝ }
     ensures { λ m. ⌜ (m ≡ k + length (newcomers j)) × (now (t .exit) ≡ joinedBytes j k (now (t .entry))) ⌝ }
 {
     match j {
         Joins::NoTask => k,
         Joins::NewTask(x) => {
-            put8(t, 72 + 8 * k, task_bytes(x));
+            put_tagged(t, TASKS_AT + TASK_SIZE * k, task_bytes(x));
             k + 1
         }
     }
@@ -53,12 +60,12 @@ fn join(t: &mut [u8], k: usize, j: Joins) -> usize
 // The policy and the marks stand there already.
 fn put_header(t: &mut [u8], h: Header)
     requires { ⌜ HeaderKept (now t) h ⌝ }
-    ensures { λ _. ⌜ now (t .exit) ≡ putAt 8 (now (t .entry)) 0 (headerBytes h) ⌝ }
+    ensures { λ _. ⌜ now (t .exit) ≡ putAt headSize (now (t .entry)) 0 (headerBytes h) ⌝ }
 {
     let aca = h.aca;
-    t[4] = h.count;
-    t[5] = aca_number(aca);
-    t[6] = h.run;
+    t[COUNT_OFFSET] = h.count;
+    t[ACA_OFFSET] = aca_number(aca);
+    t[RUN_OFFSET] = h.run;
 }
 
 // How many tasks ended.

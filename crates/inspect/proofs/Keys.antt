@@ -11,6 +11,8 @@ use lib.ListN.{length, getD, take, drop, set, replicate, getD-replicate, length-
 use lib.Seq.{drop-set-lt, take-suc-set, slice, slice-cons, getD-take, getD-drop, getD-append-add}
 use Rattle.laws.specs.Lists.{any}
 use Rattle.laws.proofs.Bools.{split}
+use Rattle.octets.specs.Sizes.{nexusOffset}
+use Rattle.rules.specs.Tasks.{places}
 use Rattle.records.specs.Records.{taskSize}
 use Rattle.records.specs.Tables.{Bytes}
 use Rattle.records.proofs.Good.{bytes-drop}
@@ -33,7 +35,7 @@ keys-low : (n : ℕ) (l : List ℕ) → Bytes l → (i : ℕ) → i < n → getD
 unfolding keysFrom
 keys-low zero l b i h = absurd (omega arith)
 keys-low (suc n) l b zero h =
-    rw (getD-take 8 l 2 0 (omega arith), getD-take 8 l 6 0 (omega arith), getD-take 8 l 7 0 (omega arith)) (omega (arith, b 2, b 6, b 7))
+    rw (getD-take taskSize l nexusOffset 0 (omega arith), getD-take taskSize l 6 0 (omega arith), getD-take taskSize l 7 0 (omega arith)) (omega (arith, b 2, b 6, b 7))
 keys-low (suc n) l b (suc i) h = keys-low n (drop taskSize l) (bytes-drop l taskSize b) i (omega arith)
 
 pub noted-spared :
@@ -57,7 +59,7 @@ slice-next l i n h room = rw (add-one, ← slice-cons i n l 0 h room)
 pub slice-past : (l : List ℕ) (i n : ℕ) → n ≤ i → slice i n l ≡ []
 slice-past l i n h = drop-of-length-le (take n l) {i = i} (simp length-take (omega arith))
 
-module _ (ks : List ℕ) (n k : ℕ) (long : length ks ≡ 68) (few : n ≤ 64) (s : Spared ks n) (low : k < spareKey) where
+module _ (ks : List ℕ) (n k : ℕ) (long : length ks ≡ 68) (few : n ≤ places) (s : Spared ks n) (low : k < spareKey) where
   one : (j : ℕ) → j < 68 → any (eqb k) (slice j n ks) ≡ eqb k (getD ks j 0) || any (eqb k) (slice (j + 1) n ks)
   one j h =
       split (ltb j n)

@@ -11,7 +11,8 @@ use borrow.Author.Tests.{eqb-true, eqb-false, eq-eqb, ne-eqb, lt-ltb, le-leb, lt
 use Rattle.laws.specs.Lists.{any, isNil}
 use Rattle.laws.specs.RecordsInLists.{recordAt}
 use Rattle.laws.proofs.Bools.{and-true, or-false, split}
-use Rattle.rules.specs.Tasks.{same}
+use Rattle.octets.specs.Sizes.{headSize, taskSize, tasksAt, tableSize, nexusesAt, countOffset, acaOffset, runOffset, nexusOffset}
+use Rattle.rules.specs.Tasks.{places, nexuses, same}
 use Rattle.rules.specs.Well.{statesFit, faultFits, distinct, tooHigh, wellFormed}
 use Rattle.records.specs.Numbers.{tagFrom, acaFrom}
 use Rattle.records.specs.Records.{headerFrom, headerFits, taskFrom, taskFits}
@@ -57,16 +58,16 @@ used-fit-is : (n : ℕ) (aca : Allegiance) (o : Older) (l : List ℕ) → usedFi
 unfolding usedFit tasksFit tasksFrom
 used-fit-is zero aca o l = refl
 used-fit-is (suc n) aca o l =
-    rw (used-fit-is n aca (behindBy ((taskFrom (take 8 l)) .attribute) o) (drop 8 l), youngest n (drop 8 l))
-    (and-swap (taskFits (take 8 l)) (fitsBy aca o (taskFrom (take 8 l)) (isNil (tasksFrom n (drop 8 l)))) (tasksFit n (drop 8 l))
-    (fitBy aca (behindBy ((taskFrom (take 8 l)) .attribute) o) (tasksFrom n (drop 8 l))))
+    rw (used-fit-is n aca (behindBy ((taskFrom (take taskSize l)) .attribute) o) (drop taskSize l), youngest n (drop taskSize l))
+    (and-swap (taskFits (take taskSize l)) (fitsBy aca o (taskFrom (take taskSize l)) (isNil (tasksFrom n (drop taskSize l)))) (tasksFit n (drop taskSize l))
+    (fitBy aca (behindBy ((taskFrom (take taskSize l)) .attribute) o) (tasksFrom n (drop taskSize l))))
 
 nexuses-low : (n : ℕ) (l : List ℕ) → tasksFit n l ≡ true → any tooHigh (tasksFrom n l) ≡ false
 unfolding tasksFit tasksFrom
 nexuses-low zero l e = refl
 nexuses-low (suc n) l e =
-    let o = and-true (taskFits (take 8 l)) (tasksFit n (drop 8 l)) e in
-    rw (lt-leb 8 (getD (take 8 l) 2 0) (task-nexus-low (take 8 l) (o .0))) (nexuses-low n (drop 8 l) (o .1))
+    let o = and-true (taskFits (take taskSize l)) (tasksFit n (drop taskSize l)) e in
+    rw (lt-leb nexuses (getD (take taskSize l) nexusOffset 0) (task-nexus-low (take taskSize l) (o .0))) (nexuses-low n (drop taskSize l) (o .1))
 
 -- Names as numbers -------------------------------------------------------------------------------------------------------------------------
 
@@ -77,13 +78,13 @@ tags-fit : (n : ℕ) (l : List ℕ) → Bytes l → any bigTag (tasksFrom n l) �
 unfolding tasksFrom
 tags-fit zero l b = refl
 tags-fit (suc n) l b =
-    rw (lt-leb 65536 (tagFrom (getD (take 8 l) 6 0) (getD (take 8 l) 7 0)) (rw (getD-take 8 l 6 0 (omega arith), getD-take 8 l 7 0 (omega arith)) (omega (arith, b 6, b 7))))
-    (tags-fit n (drop 8 l) (λ i. rw getD-drop (b (8 + i))))
+    rw (lt-leb 65536 (tagIn (take taskSize l)) (rw (getD-take taskSize l 6 0 (omega arith), getD-take taskSize l 7 0 (omega arith)) (omega (arith, b 6, b 7))))
+    (tags-fit n (drop taskSize l) (λ i. rw getD-drop (b (taskSize + i))))
 
 keys-are : (n : ℕ) (l : List ℕ) → keysFrom n l ≡ map keyOf (tasksFrom n l)
 unfolding keysFrom tasksFrom
 keys-are zero l = refl
-keys-are (suc n) l = ap (λ (z : List ℕ). keyOf (taskFrom (take 8 l)) ∷ z) (keys-are n (drop 8 l))
+keys-are (suc n) l = ap (λ (z : List ℕ). keyOf (taskFrom (take taskSize l)) ∷ z) (keys-are n (drop taskSize l))
 
 key-same : (t u : Task) → bigTag t ≡ false → bigTag u ≡ false → eqb (keyOf t) (keyOf u) ≡ same (t .nexus) (t .tag) u
 key-same t u p q =
@@ -119,73 +120,73 @@ apart-keys (t ∷ ts) q =
 
 -- The table --------------------------------------------------------------------------------------------------------------------------------
 
-aca-fits : (n : ℕ) → n ≤ 8 → faultFits (acaFrom n) ≡ true
-aca-fits n h = split (eqb n 0) (λ e. rw e) (λ e. rw e (lt-ltb (n - 1) 8 (omega (arith, eqb-false n 0 e))))
+aca-fits : (n : ℕ) → n ≤ nexuses → faultFits (acaFrom n) ≡ true
+aca-fits n h = split (eqb n 0) (λ e. rw e) (λ e. rw e (lt-ltb (n - 1) nexuses (omega (arith, eqb-false n 0 e))))
 
 -- with its records good, a table is well formed if names and states are
 well-is :
-    (b : List ℕ) → length b ≡ 584 → headerFits (recordAt 8 b 0) ≡ true → tasksFit (getD b 4 0) (drop 72 b) ≡ true
+    (b : List ℕ) → length b ≡ tableSize → headerFits (recordAt headSize b 0) ≡ true → tasksFit (countIn b) (drop tasksAt b) ≡ true
     → wellFormed (stateOf b)
-    ≡ distinct (tasksFrom (getD b 4 0) (drop 72 b))
-    && statesFit ((headerFrom (recordAt 8 b 0)) .aca) (tasksFrom (getD b 4 0) (drop 72 b))
+    ≡ distinct (tasksFrom (countIn b) (drop tasksAt b))
+    && statesFit ((headerFrom (recordAt headSize b 0)) .aca) (tasksFrom (countIn b) (drop tasksAt b))
 unfolding wellFormed stateOf
 well-is b long h t =
-    let n = getD b 4 0 in
-    let ts = tasksFrom n (drop 72 b) in
+    let n = countIn b in
+    let ts = tasksFrom n (drop tasksAt b) in
     let f = header-good b (omega arith) h in
-    let byte : (i : ℕ) → i < 8 → getD (recordAt 8 b 0) i 0 ≡ getD b i 0 = λ i l. getD-take 8 b i 0 l in
-    let few : leb (length ts) 64 ≡ true = le-leb (length ts) 64 (omega (arith, f .1, length-tasks-from n (drop 72 b))) in
-    let counted : eqb (getD (recordAt 8 b 0) 4 0) (length ts) ≡ true =
-    eq-eqb (getD (recordAt 8 b 0) 4 0) (length ts) (byte 4 (omega arith) ∙ sym (length-tasks-from n (drop 72 b)))
+    let byte : (i : ℕ) → i < headSize → getD (recordAt headSize b 0) i 0 ≡ getD b i 0 = λ i l. getD-take headSize b i 0 l in
+    let few : leb (length ts) 64 ≡ true = le-leb (length ts) 64 (omega (arith, f .1, length-tasks-from n (drop tasksAt b))) in
+    let counted : eqb (getD (recordAt headSize b 0) countOffset 0) (length ts) ≡ true =
+    eq-eqb (getD (recordAt headSize b 0) countOffset 0) (length ts) (byte countOffset (omega arith) ∙ sym (length-tasks-from n (drop tasksAt b)))
     in
-    let run : leb (getD (recordAt 8 b 0) 6 0) 4 ≡ true = le-leb (getD (recordAt 8 b 0) 6 0) 4 (omega (arith, f .3, byte 6 (omega arith))) in
-    let fault : faultFits (acaFrom (getD (recordAt 8 b 0) 5 0)) ≡ true =
-    aca-fits (getD (recordAt 8 b 0) 5 0) (omega (arith, f .2, byte 5 (omega arith)))
+    let run : leb (getD (recordAt headSize b 0) runOffset 0) 4 ≡ true = le-leb (getD (recordAt headSize b 0) runOffset 0) 4 (omega (arith, f .3, byte runOffset (omega arith))) in
+    let fault : faultFits (acaFrom (getD (recordAt headSize b 0) acaOffset 0)) ≡ true =
+    aca-fits (getD (recordAt headSize b 0) acaOffset 0) (omega (arith, f .2, byte acaOffset (omega arith)))
     in
-    rw (run, few, counted, length-pendings-from 8 (drop 8 b), fault, nexuses-low n (drop 72 b) t)
+    rw (run, few, counted, length-pendings-from nexuses (drop nexusesAt b), fault, nexuses-low n (drop tasksAt b) t)
 
 -- code's order is the paper's
 pub table-test-is : (b : List ℕ) → Bytes b → tableTest b ≡ goodTable b
 unfolding tableTest goodTable
 table-test-is b by =
-    and-given (eqb (length b) 584)
+    and-given (eqb (length b) tableSize)
     (λ l.
-    and-given (headerFits (recordAt 8 b 0))
+    and-given (headerFits (recordAt headSize b 0))
     (λ h.
-    and-given (nexusesFit 0 8 (drop 8 b))
+    and-given (nexusesFit 0 nexuses (drop nexusesAt b))
     (λ x.
-    let n = getD b 4 0 in
-    let aca = (headerFrom (recordAt 8 b 0)) .aca in
-    let ts = tasksFrom n (drop 72 b) in
-    let u = unusedFit (64 - n) (drop (72 + 8 * n) b) in
-    let names : keysApart (keysFrom n (drop 72 b)) ≡ distinct ts =
-    ap keysApart (keys-are n (drop 72 b)) ∙ apart-keys ts (tags-fit n (drop 72 b) (bytes-drop b 72 by))
+    let n = countIn b in
+    let aca = (headerFrom (recordAt headSize b 0)) .aca in
+    let ts = tasksFrom n (drop tasksAt b) in
+    let u = unusedFit (places - n) (drop (tasksAt + taskSize * n) b) in
+    let names : keysApart (keysFrom n (drop tasksAt b)) ≡ distinct ts =
+    ap keysApart (keys-are n (drop tasksAt b)) ∙ apart-keys ts (tags-fit n (drop tasksAt b) (bytes-drop b tasksAt by))
     in
-    let used : usedFit n aca noOlder (drop 72 b) ≡ tasksFit n (drop 72 b) && statesFit aca ts =
-    used-fit-is n aca noOlder (drop 72 b) ∙ ap (λ (z : Bool). tasksFit n (drop 72 b) && z) (fit-walk aca ts)
+    let used : usedFit n aca noOlder (drop tasksAt b) ≡ tasksFit n (drop tasksAt b) && statesFit aca ts =
+    used-fit-is n aca noOlder (drop tasksAt b) ∙ ap (λ (z : Bool). tasksFit n (drop tasksAt b) && z) (fit-walk aca ts)
     in
-    ap (λ (z : Bool). z && (u && keysApart (keysFrom n (drop 72 b)))) used
-    ∙ ap (λ (z : Bool). (tasksFit n (drop 72 b) && statesFit aca ts) && (u && z)) names
-    ∙ and-assoc (tasksFit n (drop 72 b)) (statesFit aca ts) (u && distinct ts)
-    ∙ and-given (tasksFit n (drop 72 b))
+    ap (λ (z : Bool). z && (u && keysApart (keysFrom n (drop tasksAt b)))) used
+    ∙ ap (λ (z : Bool). (tasksFit n (drop tasksAt b) && statesFit aca ts) && (u && z)) names
+    ∙ and-assoc (tasksFit n (drop tasksAt b)) (statesFit aca ts) (u && distinct ts)
+    ∙ and-given (tasksFit n (drop tasksAt b))
     (λ t.
     and-turn (statesFit aca ts) u (distinct ts)
-    ∙ ap (λ (z : Bool). u && z) (sym (well-is b (eqb-true (length b) 584 l) h t))))))
+    ∙ ap (λ (z : Bool). u && z) (sym (well-is b (eqb-true (length b) tableSize l) h t))))))
 
 -- What code knows at each of its answers, over the header record that it read -------------------------------------------------------------
 
-module _ (b r : List ℕ) (read : r ≡ recordAt 8 b 0) where
-  count-read : getD r 4 0 ≡ getD b 4 0
-  count-read = rw read (getD-take 8 b 4 0 (omega arith))
+module _ (b r : List ℕ) (read : r ≡ recordAt headSize b 0) where
+  count-read : getD r countOffset 0 ≡ countIn b
+  count-read = rw read (getD-take headSize b countOffset 0 (omega arith))
 
-  pub count-fits : length b ≡ 584 → headerFits r ≡ true → getD r 4 0 ≤ 64
+  pub count-fits : length b ≡ tableSize → headerFits r ≡ true → getD r countOffset 0 ≤ places
   count-fits long h =
       omega (arith, count-read, header-good b (omega arith) (rw read at h) .1)
 
   pub by-tests :
-      Bytes b → (x : Bool) → x ≡ eqb (length b) 584 && (headerFits r && recordsFit (getD r 4 0) ((headerFrom r) .aca) b)
+      Bytes b → (x : Bool) → x ≡ eqb (length b) tableSize && (headerFits r && recordsFit (getD r countOffset 0) ((headerFrom r) .aca) b)
       → x ≡ goodTable b
   unfolding tableTest
   by-tests by x e =
-      let F : List ℕ → ℕ → Bool = λ q n. eqb (length b) 584 && (headerFits q && recordsFit n ((headerFrom q) .aca) b) in
-      e ∙ ap (λ (n : ℕ). F r n) count-read ∙ ap (λ (q : List ℕ). F q (getD b 4 0)) read ∙ table-test-is b by
+      let F : List ℕ → ℕ → Bool = λ q n. eqb (length b) tableSize && (headerFits q && recordsFit n ((headerFrom q) .aca) b) in
+      e ∙ ap (λ (n : ℕ). F r n) count-read ∙ ap (λ (q : List ℕ). F q (countIn b)) read ∙ table-test-is b by

@@ -2,8 +2,14 @@
 use decide::states::behind;
 use decide::states::fits;
 use decide::states::no_older;
-use octets::get8;
-use octets::load8;
+use octets::sizes::NEXUS_SIZE;
+use octets::sizes::NEXUSES_AT;
+use octets::sizes::TABLE_SIZE;
+use octets::sizes::TASK_SIZE;
+use octets::sizes::TASKS_AT;
+use octets::tagged::get_tagged;
+use octets::tagged::load_tagged;
+use octets::untagged::load_untagged;
 use records::header::header_fits;
 use records::header::header_from;
 use records::nexus::nexus_fits;
@@ -11,6 +17,8 @@ use records::tasks::task_fits;
 use records::tasks::task_from;
 use records::tasks::unlike_unused;
 use values::Allegiance;
+use values::NEXUSES;
+use values::PLACES;
 use values::Tag;
 ghost use mathlib.Core.Path.{_≡_};
 ghost use mathlib.Core.List.{[], _∷_, _++_};
@@ -18,6 +26,8 @@ ghost use lib.Dec.{eqb};
 ghost use Prim.Native.Nat.{_+_, _-_, _*_, _≤_};
 ghost use lib.ListN.{length, take, drop};
 ghost use Rattle.laws.specs.Lists.{any};
+ghost use Rattle.octets.specs.Sizes.{nexusesAt, taskSize, tasksAt, tableSize};
+ghost use Rattle.rules.specs.Tasks.{places, nexuses};
 ghost use Rattle.decide.specs.OlderTasks.{noOlder};
 ghost use Rattle.records.specs.Tables.{nexusesFit, unusedFit, goodTable};
 ghost use Rattle.inspect.specs.TableTest.{usedFit, keysFrom, keysApart, Spared, recordsFit};
@@ -32,12 +42,12 @@ fn key_of(n: u8, g: Tag) -> Key
 }
 
 fn nexuses_fit(t: &[u8]) -> bool
-    requires { ⌜ length (now t) ≡ 584 ⌝ }
-    ensures { λ r. ⌜ r ≡ nexusesFit 0 8 (drop 8 (now (t .entry))) ⌝ }
+    requires { ⌜ length (now t) ≡ tableSize ⌝ }
+    ensures { λ r. ⌜ r ≡ nexusesFit 0 nexuses (drop nexusesAt (now (t .entry))) ⌝ }
 {
     let mut n: usize = 0;
-    while n < 8 {
-        if !nexus_fits(load8(t, 8 + 8 * n), n as u8) {
+    while n < NEXUSES {
+        if !nexus_fits(load_untagged(t, NEXUSES_AT + NEXUS_SIZE * n), n as u8) {
             return false;
         }
         n += 1;
@@ -47,13 +57,13 @@ fn nexuses_fit(t: &[u8]) -> bool
 
 // The state first: a state that fits settles most of what the record's own test asks, and the compiler sees it.
 fn used_fit(t: &[u8], n: usize, aca: Allegiance) -> bool
-    requires { ⌜ (length (now t) ≡ 584) × (n ≤ 64) ⌝ }
-    ensures { λ r. ⌜ r ≡ usedFit n aca noOlder (drop 72 (now (t .entry))) ⌝ }
+    requires { ⌜ (length (now t) ≡ tableSize) × (n ≤ places) ⌝ }
+    ensures { λ r. ⌜ r ≡ usedFit n aca noOlder (drop tasksAt (now (t .entry))) ⌝ }
 {
     let mut o = no_older();
     let mut i: usize = 0;
     while i < n {
-        let r = load8(t, 72 + 8 * i);
+        let r = load_tagged(t, TASKS_AT + TASK_SIZE * i);
         let k = task_from(r);
         let a = k.attribute;
         if !fits(aca, k, o, i + 1 == n) {
@@ -69,13 +79,13 @@ fn used_fit(t: &[u8], n: usize, aca: Allegiance) -> bool
 }
 
 fn unused_fit(t: &[u8], n: usize) -> bool
-    requires { ⌜ (length (now t) ≡ 584) × (n ≤ 64) ⌝ }
-    ensures { λ r. ⌜ r ≡ unusedFit (64 - n) (drop (72 + 8 * n) (now (t .entry))) ⌝ }
+    requires { ⌜ (length (now t) ≡ tableSize) × (n ≤ places) ⌝ }
+    ensures { λ r. ⌜ r ≡ unusedFit (places - n) (drop (tasksAt + taskSize * n) (now (t .entry))) ⌝ }
 {
     let mut unlike: u64 = 0;
     let mut i = n;
-    while i < 64 {
-        unlike = unlike | unlike_unused(load8(t, 72 + 8 * i));
+    while i < PLACES {
+        unlike = unlike | unlike_unused(load_tagged(t, TASKS_AT + TASK_SIZE * i));
         i += 1;
     }
     unlike == 0
@@ -83,12 +93,12 @@ fn unused_fit(t: &[u8], n: usize) -> bool
 
 // That the keys are 68 is asked: of an array behind a reference a proof is told no length.
 fn note_keys(t: &[u8], n: usize, keys: &mut [Key; 68])
-    requires { ⌜ (length (now t) ≡ 584) × (n ≤ 64) × (length (now keys) ≡ 68) ⌝ }
-    ensures { λ _. ⌜ now (keys .exit) ≡ keysFrom n (drop 72 (now (t .entry))) ++ drop n (now (keys .entry)) ⌝ }
+    requires { ⌜ (length (now t) ≡ tableSize) × (n ≤ places) × (length (now keys) ≡ 68) ⌝ }
+    ensures { λ _. ⌜ now (keys .exit) ≡ keysFrom n (drop tasksAt (now (t .entry))) ++ drop n (now (keys .entry)) ⌝ }
 {
     let mut i: usize = 0;
     while i < n {
-        let k = task_from(get8(t, 72 + 8 * i));
+        let k = task_from(get_tagged(t, TASKS_AT + TASK_SIZE * i));
         keys[i] = key_of(k.nexus, k.tag);
         i += 1;
     }
@@ -102,7 +112,7 @@ fn is_among(k: Key, a: Key, b: Key, c: Key, d: Key) -> bool
 
 // "no two tasks share nexus and tag". Four at a time: behind the n stand keys that no task has, so that the last four may reach past it.
 fn distinct(keys: &[Key; 68], n: usize) -> bool
-    requires { ⌜ (n ≤ 64) × (length (now keys) ≡ 68) × Spared (now keys) n ⌝ }
+    requires { ⌜ (n ≤ places) × (length (now keys) ≡ 68) × Spared (now keys) n ⌝ }
     ensures { λ r. ⌜ r ≡ keysApart (take n (now (keys .entry))) ⌝ }
 {
     let mut clear = true;
@@ -123,8 +133,8 @@ fn distinct(keys: &[Key; 68], n: usize) -> bool
 }
 
 fn names_fit(t: &[u8], n: usize) -> bool
-    requires { ⌜ (length (now t) ≡ 584) × (n ≤ 64) ⌝ }
-    ensures { λ r. ⌜ r ≡ keysApart (keysFrom n (drop 72 (now (t .entry)))) ⌝ }
+    requires { ⌜ (length (now t) ≡ tableSize) × (n ≤ places) ⌝ }
+    ensures { λ r. ⌜ r ≡ keysApart (keysFrom n (drop tasksAt (now (t .entry)))) ⌝ }
 {
     let mut keys: [Key; 68] = [0x0100_0000; 68];
     note_keys(t, n, &mut keys);
@@ -132,7 +142,7 @@ fn names_fit(t: &[u8], n: usize) -> bool
 }
 
 fn records_fit(t: &[u8], n: usize, aca: Allegiance) -> bool
-    requires { ⌜ (length (now t) ≡ 584) × (n ≤ 64) ⌝ }
+    requires { ⌜ (length (now t) ≡ tableSize) × (n ≤ places) ⌝ }
     ensures { λ r. ⌜ r ≡ recordsFit n aca (now (t .entry)) ⌝ }
 {
     nexuses_fit(t) & (used_fit(t, n, aca) & (unused_fit(t, n) & names_fit(t, n)))
@@ -142,10 +152,10 @@ fn records_fit(t: &[u8], n: usize, aca: Allegiance) -> bool
 pub fn table_fits(t: &[u8]) -> bool
     ensures { λ r. ⌜ r ≡ goodTable (now (t .entry)) ⌝ }
 {
-    if t.len() != 584 {
+    if t.len() != TABLE_SIZE {
         return false;
     }
-    let r = load8(t, 0);
+    let r = load_untagged(t, 0);
     if !header_fits(r) {
         return false;
     }

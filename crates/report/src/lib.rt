@@ -1,7 +1,10 @@
 // The ended tasks listed in their former age order, and the rest of the report zeroed.
 use decide::fates::fate;
-use octets::get8;
-use octets::put8;
+use octets::sizes::ENDED_SIZE;
+use octets::sizes::TASK_SIZE;
+use octets::sizes::TASKS_AT;
+use octets::tagged::get_tagged;
+use octets::tagged::put_tagged;
 use records::tasks::ended_bytes;
 use records::tasks::task_from;
 use steps::ends_nobody;
@@ -10,6 +13,8 @@ use values::Sweep;
 ghost use mathlib.Core.Path.{_≡_};
 ghost use Prim.Native.Nat.{_≤_, _<_};
 ghost use lib.ListN.{length, drop, replicate};
+ghost use Rattle.octets.specs.Sizes.{tasksAt, tableSize, reportSize};
+ghost use Rattle.rules.specs.Tasks.{places};
 ghost use Rattle.records.specs.Tables.{reportBytes};
 ghost use Rattle.steps.specs.Steps.{endsOf};
 ghost use Rattle.steps.specs.Reports.{ListedAs, Listed};
@@ -25,8 +30,8 @@ pub fn zero_rest(part: &mut [u8])
 }
 
 // One task: its ended record is put at place m of the report, if it ends.
-fn list_one(report: &mut [u8], m: usize, w: Sweep, r: [u8; 8]) -> usize
-    requires { ⌜ (length (now report) ≡ 512) × (m < 64) ⌝ }
+fn list_one(report: &mut [u8], m: usize, w: Sweep, r: [u8; TASK_SIZE]) -> usize
+    requires { ⌜ (length (now report) ≡ reportSize) × (m < places) ⌝ }
     ensures { λ k. ⌜ Listed w m r (now (report .entry)) (now (report .exit)) k ⌝ }
 {
     let t = task_from(r);
@@ -34,15 +39,15 @@ fn list_one(report: &mut [u8], m: usize, w: Sweep, r: [u8; 8]) -> usize
     match f {
         Fate::Stays => m,
         Fate::Ends(status) => {
-            put8(report, 8 * m, ended_bytes(t.nexus, status, t.tag));
+            put_tagged(report, ENDED_SIZE * m, ended_bytes(t.nexus, status, t.tag));
             m + 1
         }
     }
 }
 
 fn list_ends(t: &[u8], n: usize, w: Sweep, report: &mut [u8]) -> usize
-    requires { ⌜ (length (now t) ≡ 584) × (n ≤ 64) × (length (now report) ≡ 512) ⌝ }
-    ensures { λ m. ⌜ ListedAs (endsOf w n (drop 72 (now (t .entry)))) (now (report .entry)) (now (report .exit)) m ⌝ }
+    requires { ⌜ (length (now t) ≡ tableSize) × (n ≤ places) × (length (now report) ≡ reportSize) ⌝ }
+    ensures { λ m. ⌜ ListedAs (endsOf w n (drop tasksAt (now (t .entry)))) (now (report .entry)) (now (report .exit)) m ⌝ }
 {
     if ends_nobody(w) {
         return 0;
@@ -50,7 +55,7 @@ fn list_ends(t: &[u8], n: usize, w: Sweep, report: &mut [u8]) -> usize
     let mut m: usize = 0;
     let mut i: usize = 0;
     while i < n {
-        let r = get8(t, 72 + 8 * i);
+        let r = get_tagged(t, TASKS_AT + TASK_SIZE * i);
         m = list_one(report, m, w, r);
         i += 1;
     }
@@ -59,11 +64,11 @@ fn list_ends(t: &[u8], n: usize, w: Sweep, report: &mut [u8]) -> usize
 
 // How many ended.
 pub fn write_report(t: &[u8], n: usize, w: Sweep, report: &mut [u8]) -> usize
-    requires { ⌜ (length (now t) ≡ 584) × (n ≤ 64) × (length (now report) ≡ 512) ⌝ }
-    ensures { λ m. ⌜ (m ≡ length (endsOf w n (drop 72 (now (t .entry))))) × (now (report .exit) ≡ reportBytes (endsOf w n (drop 72 (now (t .entry))))) × (m ≤ 64) ⌝ }
+    requires { ⌜ (length (now t) ≡ tableSize) × (n ≤ places) × (length (now report) ≡ reportSize) ⌝ }
+    ensures { λ m. ⌜ (m ≡ length (endsOf w n (drop tasksAt (now (t .entry))))) × (now (report .exit) ≡ reportBytes (endsOf w n (drop tasksAt (now (t .entry))))) × (m ≤ places) ⌝ }
 {
     let m = list_ends(t, n, w, report);
-    let at = 8 * m;
+    let at = ENDED_SIZE * m;
     zero_rest(&mut report[at..]);
     m
 }

@@ -8,7 +8,8 @@ use lib.ListN.{getD, drop}
 use lib.Seq.{getD-drop, getD-take}
 use Rattle.laws.specs.Lists.{any, first}
 use Rattle.laws.specs.RecordsInLists.{recordAt}
-use Rattle.rules.specs.Tasks.{acaTask, same, whoseTurn, turnOf, isNamed}
+use Rattle.octets.specs.Sizes.{headSize, nexusSize, tasksAt, pendingsAt, nexusesAt, countOffset, pendingOffset}
+use Rattle.rules.specs.Tasks.{places, nexuses, acaTask, same, whoseTurn, turnOf, isNamed}
 use Rattle.rules.specs.Bits.{noPending}
 use Rattle.rules.specs.Rulings.{pendingOf, turn}
 use Rattle.rules.specs.Rules.{enter, complete, nexusOf, ruleFor, ruling}
@@ -34,27 +35,27 @@ pub searched-turn-is : (a : Allegiance) (run : ℕ) (ts : List Task) → statesF
 searched-turn-is Clear run ts e = chosen-named run ts e
 searched-turn-is (Faulted f) run ts e = rw (named-in-aca f run ts) (turn-found (first acaTask ts))
 
-pendings-at : (k n : ℕ) (l : List ℕ) → n < k → getD (pendingsFrom k l) n noPending ≡ pendingFrom (getD l (8 * n + 3) 0)
+pendings-at : (k n : ℕ) (l : List ℕ) → n < k → getD (pendingsFrom k l) n noPending ≡ pendingFrom (getD l (nexusSize * n + pendingOffset) 0)
 unfolding pendingsFrom
 pendings-at zero n l h = absurd (omega arith)
-pendings-at (suc k) zero l h = rw (getD-take 8 l 3 0 (omega arith))
+pendings-at (suc k) zero l h = rw (getD-take nexusSize l pendingOffset 0 (omega arith))
 pendings-at (suc k) (suc n) l h =
-    pendings-at k n (drop 8 l) (omega arith)
+    pendings-at k n (drop nexusSize l) (omega arith)
     ∙ rw (getD-drop)
-    (ap (λ (i : ℕ). pendingFrom (getD l i 0)) (let z : 8 + (8 * n + 3) ≡ 8 * suc n + 3 = omega arith in z))
+    (ap (λ (i : ℕ). pendingFrom (getD l i 0)) (let z : nexusSize + (nexusSize * n + pendingOffset) ≡ nexusSize * suc n + pendingOffset = omega arith in z))
 
-pending-at-is : (b : List ℕ) (n : ℕ) → n < 8 → pendingAt b n ≡ getD (pendingsFrom 8 (drop 8 b)) n noPending
+pending-at-is : (b : List ℕ) (n : ℕ) → n < nexuses → pendingAt b n ≡ getD (pendingsFrom nexuses (drop nexusesAt b)) n noPending
 pending-at-is b n h =
     sym
-    (pendings-at 8 n (drop 8 b) h
-    ∙ rw (getD-drop) (ap (λ (i : ℕ). pendingFrom (getD b i 0)) (let z : 8 + (8 * n + 3) ≡ 11 + 8 * n = omega arith in z)))
+    (pendings-at nexuses n (drop nexusesAt b) h
+    ∙ rw (getD-drop) (ap (λ (i : ℕ). pendingFrom (getD b i 0)) (let z : nexusesAt + (nexusSize * n + pendingOffset) ≡ pendingsAt + nexusSize * n = omega arith in z)))
 
-at-nexus : (b : List ℕ) (n : ℕ) → n < 8 → pendingAt b n ≡ pendingOf (stateOf b) n
+at-nexus : (b : List ℕ) (n : ℕ) → n < nexuses → pendingAt b n ≡ pendingOf (stateOf b) n
 unfolding stateOf
 at-nexus b n h = pending-at-is b n h
 
 rule-for :
-    (b : List ℕ) (e : Event) → Tested (stateOf b) → nexusOf e < 8
+    (b : List ℕ) (e : Event) → Tested (stateOf b) → nexusOf e < nexuses
     → searchedRuling b ((stateOf b) .header) e ((stateOf b) .tasks) ≡ ruleFor (stateOf b) e
 unfolding searchedRuling
 rule-for b (Command c) w l =
@@ -72,32 +73,32 @@ rule-for b (Management n f) w l = sym (rule-management (stateOf b) n f)
 rule-for b (Condition c) w l = sym (rule-condition (stateOf b) c)
 
 pub searched-ruling-is :
-    (b : List ℕ) (e : Event) → goodTable b ≡ true → nexusOf e < 8
+    (b : List ℕ) (e : Event) → goodTable b ≡ true → nexusOf e < nexuses
     → searchedRuling b ((stateOf b) .header) e ((stateOf b) .tasks) ≡ ruling (stateOf b) e
 searched-ruling-is b e g l = rule-for b e (good-tested b g) l ∙ sym (ruling-low (stateOf b) e l)
 
 -- What code reads of a good table ------------------------------------------------------------------------------------------------------------
 
-pub good-few : (b : List ℕ) → goodTable b ≡ true → (stateOf b) .header .count ≤ 64
+pub good-few : (b : List ℕ) → goodTable b ≡ true → (stateOf b) .header .count ≤ places
 good-few b e = omega (arith, good-tested b e .counted, good-tested b e .few)
 
-pub header-read : (b r : List ℕ) (h : Header) → r ≡ recordAt 8 b 0 → h ≡ headerFrom r → h ≡ (stateOf b) .header
+pub header-read : (b r : List ℕ) (h : Header) → r ≡ recordAt headSize b 0 → h ≡ headerFrom r → h ≡ (stateOf b) .header
 unfolding stateOf
 header-read b r h e f = f ∙ ap headerFrom e
 
-tasks-counted : (b : List ℕ) → tasksFrom ((stateOf b) .header .count) (drop 72 b) ≡ (stateOf b) .tasks
+tasks-counted : (b : List ℕ) → tasksFrom ((stateOf b) .header .count) (drop tasksAt b) ≡ (stateOf b) .tasks
 unfolding stateOf
-tasks-counted b = ap (λ (n : ℕ). tasksFrom n (drop 72 b)) (getD-take 8 b 4 0 (omega arith))
+tasks-counted b = ap (λ (n : ℕ). tasksFrom n (drop tasksAt b)) (getD-take headSize b countOffset 0 (omega arith))
 
 module _ (b : List ℕ) (h : Header) (good : goodTable b ≡ true) (read : h ≡ (stateOf b) .header) where
-  pub turn-read : searchedTurn (h .aca) (h .run) (tasksFrom (h .count) (drop 72 b)) ≡ turn (stateOf b)
+  pub turn-read : searchedTurn (h .aca) (h .run) (tasksFrom (h .count) (drop tasksAt b)) ≡ turn (stateOf b)
   turn-read =
-      ap (λ (k : Header). searchedTurn (k .aca) (k .run) (tasksFrom (k .count) (drop 72 b))) read
+      ap (λ (k : Header). searchedTurn (k .aca) (k .run) (tasksFrom (k .count) (drop tasksAt b))) read
       ∙ ap (searchedTurn ((stateOf b) .header .aca) ((stateOf b) .header .run)) (tasks-counted b)
       ∙ searched-turn-is ((stateOf b) .header .aca) ((stateOf b) .header .run) ((stateOf b) .tasks) (good-tested b good .states)
 
-  pub ruling-read : (e : Event) → nexusOf e < 8 → searchedRuling b h e (tasksFrom (h .count) (drop 72 b)) ≡ ruling (stateOf b) e
+  pub ruling-read : (e : Event) → nexusOf e < nexuses → searchedRuling b h e (tasksFrom (h .count) (drop tasksAt b)) ≡ ruling (stateOf b) e
   ruling-read e l =
-      ap (λ (k : Header). searchedRuling b k e (tasksFrom (k .count) (drop 72 b))) read
+      ap (λ (k : Header). searchedRuling b k e (tasksFrom (k .count) (drop tasksAt b))) read
       ∙ ap (searchedRuling b ((stateOf b) .header) e) (tasks-counted b)
       ∙ searched-ruling-is b e good l

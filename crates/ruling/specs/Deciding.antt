@@ -8,6 +8,7 @@ use mathlib.Core.Bool.{Bool, false}
 use mathlib.Core.List.{List}
 use lib.ListN.{getD}
 use Rattle.laws.specs.Lists.{any, first}
+use Rattle.octets.specs.Sizes.{nexusSize, pendingsAt}
 use Rattle.rules.specs.Tasks.{acaTask, same, isNamed}
 use Rattle.rules.specs.Rules.{enter, complete, manage, happen}
 use Rattle.records.specs.Numbers.{pendingFrom}
@@ -19,7 +20,7 @@ hasAca Clear ts = false
 hasAca (Faulted f) ts = any acaTask ts
 
 abbrev pub pendingAt : List ℕ → ℕ → Pending
-pendingAt b n = pendingFrom (getD b (11 + 8 * n) 0)
+pendingAt b n = pendingFrom (getD b (pendingsAt + nexusSize * n) 0)
 
 unfoldable pub searchedRuling : List ℕ → Header → Event → List Task → Ruling
 searchedRuling b h (Command c) ts =

@@ -8,6 +8,8 @@ use judge::ending::complete;
 use judge::entry::enter;
 use manage::happen;
 use manage::manage;
+use octets::sizes::NEXUS_SIZE;
+use octets::sizes::PENDINGS_AT;
 use records::nexus::pending_from;
 use values::Allegiance;
 use values::Entry;
@@ -21,13 +23,15 @@ use values::Tag;
 ghost use mathlib.Core.Path.{_≡_};
 ghost use Prim.Native.Nat.{_≤_, _<_};
 ghost use lib.ListN.{length, drop};
+ghost use Rattle.octets.specs.Sizes.{tasksAt, tableSize};
+ghost use Rattle.rules.specs.Tasks.{places, nexuses};
 ghost use Rattle.rules.specs.Rules.{nexusOf};
 ghost use Rattle.records.specs.Tables.{tasksFrom};
 ghost use Rattle.ruling.specs.Deciding.{hasAca, pendingAt, searchedRuling};
 
 fn has_aca(t: &[u8], n: usize, aca: Allegiance) -> bool
-    requires { ⌜ (length (now t) ≡ 584) × (n ≤ 64) ⌝ }
-    ensures { λ r. ⌜ r ≡ hasAca aca (tasksFrom n (drop 72 (now (t .entry)))) ⌝ }
+    requires { ⌜ (length (now t) ≡ tableSize) × (n ≤ places) ⌝ }
+    ensures { λ r. ⌜ r ≡ hasAca aca (tasksFrom n (drop tasksAt (now (t .entry)))) ⌝ }
 {
     match aca {
         Allegiance::Clear => false,
@@ -36,16 +40,16 @@ fn has_aca(t: &[u8], n: usize, aca: Allegiance) -> bool
 }
 
 fn pending_at(t: &[u8], n: u8) -> Pending
-    requires { ⌜ (length (now t) ≡ 584) × (n < 8) ⌝ }
+    requires { ⌜ (length (now t) ≡ tableSize) × (n < nexuses) ⌝ }
     ensures { λ r. ⌜ r ≡ pendingAt (now (t .entry)) n ⌝ }
 {
     let i = n as usize;
-    pending_from(t[11 + 8 * i])
+    pending_from(t[PENDINGS_AT + NEXUS_SIZE * i])
 }
 
 fn rule_command(t: &[u8], h: Header, c: Entry) -> Ruling
-    requires { ⌜ (length (now t) ≡ 584) × (h .count ≤ 64) × (c .nexus < 8) ⌝ }
-    ensures { λ r. ⌜ r ≡ searchedRuling (now (t .entry)) h (Event.Command c) (tasksFrom (h .count) (drop 72 (now (t .entry)))) ⌝ }
+    requires { ⌜ (length (now t) ≡ tableSize) × (h .count ≤ places) × (c .nexus < nexuses) ⌝ }
+    ensures { λ r. ⌜ r ≡ searchedRuling (now (t .entry)) h (Event.Command c) (tasksFrom (h .count) (drop tasksAt (now (t .entry)))) ⌝ }
 {
     let n = h.count as usize;
     let aca = h.aca;
@@ -54,8 +58,8 @@ fn rule_command(t: &[u8], h: Header, c: Entry) -> Ruling
 }
 
 fn rule_completion(t: &[u8], h: Header, nexus: u8, g: Tag, f: Finish) -> Ruling
-    requires { ⌜ (length (now t) ≡ 584) × (h .count ≤ 64) ⌝ }
-    ensures { λ r. ⌜ r ≡ searchedRuling (now (t .entry)) h (Event.Completion nexus g f) (tasksFrom (h .count) (drop 72 (now (t .entry)))) ⌝ }
+    requires { ⌜ (length (now t) ≡ tableSize) × (h .count ≤ places) ⌝ }
+    ensures { λ r. ⌜ r ≡ searchedRuling (now (t .entry)) h (Event.Completion nexus g f) (tasksFrom (h .count) (drop tasksAt (now (t .entry)))) ⌝ }
 {
     let n = h.count as usize;
     let aca = h.aca;
@@ -64,8 +68,8 @@ fn rule_completion(t: &[u8], h: Header, nexus: u8, g: Tag, f: Finish) -> Ruling
 }
 
 pub fn rule(t: &[u8], h: Header, e: Event) -> Ruling
-    requires { ⌜ (length (now t) ≡ 584) × (h .count ≤ 64) × (nexusOf e < 8) ⌝ }
-    ensures { λ r. ⌜ r ≡ searchedRuling (now (t .entry)) h e (tasksFrom (h .count) (drop 72 (now (t .entry)))) ⌝ }
+    requires { ⌜ (length (now t) ≡ tableSize) × (h .count ≤ places) × (nexusOf e < nexuses) ⌝ }
+    ensures { λ r. ⌜ r ≡ searchedRuling (now (t .entry)) h e (tasksFrom (h .count) (drop tasksAt (now (t .entry)))) ⌝ }
 {
     match e {
         Event::Command(c) => rule_command(t, h, c),

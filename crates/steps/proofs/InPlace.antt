@@ -8,16 +8,12 @@ use native.Mathlib.Omega.{arith}
 use lib.Seq.{drop-drop}
 use lib.ListN.{length, getD, take, drop, set, length-set}
 use Rattle.laws.specs.RecordsInLists.{recordAt, putAt, eachRecord}
-use Rattle.laws.proofs.RecordsInLists.{record-long, record-byte, put-long, each-step, each-end}
+use Rattle.laws.proofs.RecordsInLists.{record-long, record-byte, put-long, each-step, each-end, store-byte}
 use Rattle.steps.specs.Steps.{nextPlace}
 
 -- a byte of the record at a place, read by its own place
 pub byte-of : (w : ℕ) (b : List ℕ) (at k p : ℕ) → p ≡ at + k → k < w → getD b p 0 ≡ getD (recordAt w b at) k 0
 byte-of w b at k p e h = rw e (sym (record-byte w b at k 0 h))
-
--- a record with a byte stored
-pub stored-long : (w : ℕ) (b : List ℕ) (at k v : ℕ) → at + w ≤ length b → length (set (recordAt w b at) k v) ≡ w
-stored-long w b at k v h = length-set (recordAt w b at) k v ∙ record-long w b at h
 
 -- of n records from `at` on i are put anew, and the rest is still to come; at the end the bytes are `done`
 pub record Walking {S : Type 0} (w : ℕ) (f : S → List ℕ → List ℕ) (g : S → List ℕ → S) (at n : ℕ) (b₀ done b : List ℕ) (s : S) (i : ℕ) : Type 0 where
@@ -51,6 +47,19 @@ module _ {S : Type 0} {w : ℕ} {f : S → List ℕ → List ℕ} {g : S → Lis
         passed = omega arith;
         rest = rw (next, p, q) (each-step w f g s (n - (i + 1)) b (at + w * i) fits wide ∙ (rw fewer at (inv .rest)));
       }
+
+  -- one byte of the record, the k-th, is stored at its own place p
+  pub walk-store :
+      {b₀ done b : List ℕ} {s : S} {i : ℕ} → Walking w f g at n b₀ done b s i → i < n → (k v p : ℕ) → k < w → p ≡ at + w * i + k
+      → f s (recordAt w b (at + w * i)) ≡ set (recordAt w b (at + w * i)) k v → {b′ : List ℕ} {s′ : S} → b′ ≡ set b p v
+      → s′ ≡ g s (recordAt w b (at + w * i)) → Walking w f g at n b₀ done b′ s′ (i + 1)
+  walk-store {b₀} {done} {b} {s} {i} inv h k v p small here set-by {b′} e q =
+      let next : at + w * (i + 1) ≡ at + w * i + w = rw (add-one, mul-suc) (omega arith) in
+      let within : w * (i + 1) ≤ w * n = mul-le-mul-left w (omega arith) in
+      let fits : at + w * i + w ≤ length b = omega (arith, inv .room) in
+      walk-on inv h (rw set-by (length-set (recordAt w b (at + w * i)) k v ∙ record-long w b (at + w * i) fits))
+      (e ∙ rw (here, set-by) (store-byte w b (at + w * i) k v small fits))
+      q
 
   pub walk-ends : {b₀ done b : List ℕ} {s : S} {i : ℕ} → Walking w f g at n b₀ done b s i → n ≤ i → b ≡ done
   walk-ends {b₀} {done} {b} {s} {i} inv h =

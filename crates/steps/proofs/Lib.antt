@@ -3,7 +3,6 @@ pub mod Closes
 pub mod Nobody
 pub mod ListedEnds
 pub mod Losers
-pub mod Notes
 pub mod StepTables
 pub mod Closed
 pub mod Noted

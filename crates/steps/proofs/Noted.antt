@@ -10,11 +10,12 @@ use lib.ListN.{length, getD, set}
 use borrow.Author.Tests.{eq-eqb, ne-eqb}
 use Rattle.laws.specs.Lists.{any}
 use Rattle.laws.specs.RecordsInLists.{eachRecord}
-use Rattle.rules.specs.Tasks.{ofNexus}
+use Rattle.octets.specs.Sizes.{nexusSize}
+use Rattle.rules.specs.Tasks.{nexuses, ofNexus}
 use Rattle.rules.specs.Bits.{noPending, without, afterPowerOn, afterHardReset, afterUnitReset, afterNexusLoss, afterCleared}
 use Rattle.rules.specs.Rulings.{State, tellLosersFrom, noted}
 use Rattle.records.specs.Records.{headerBytes, nexusBytes}
-use Rattle.records.specs.Tables.{nexusRecords, taskRecords, tableBytes}
+use Rattle.records.specs.Tables.{nexusRecords, taskRecords, tableWith}
 use Rattle.records.proofs.Values.{pending-back}
 use Rattle.rules.specs.Types.{Task, Pending, Notice, Quiet, Reported, OthersLost, NexusLost, UnitWasReset, HardWasReset, PowerCameOn}
 use Rattle.steps.specs.Steps.{notedOne, notedRecord, nextPlace, notedBytes}
@@ -26,13 +27,13 @@ notedFrom k ls i [] = []
 notedFrom k ls i (p ∷ ps) = notedOne k i (any (ofNexus i) ls) p ∷ notedFrom k ls (suc i) ps
 
 noted-written :
-    (k : Notice) (ls : List Task) (i : ℕ) (ps : List Pending) (rest : List ℕ)
-    → eachRecord 8 (notedRecord k ls) nextPlace i (length ps) (nexusRecords i ps ++ rest) ≡ nexusRecords i (notedFrom k ls i ps) ++ rest
+    (cs : ℕ → ℕ) (k : Notice) (ls : List Task) (i : ℕ) (ps : List Pending) (rest : List ℕ)
+    → eachRecord nexusSize (notedRecord k ls) nextPlace i (length ps) (nexusRecords cs i ps ++ rest) ≡ nexusRecords cs i (notedFrom k ls i ps) ++ rest
 unfolding eachRecord nexusRecords notedFrom
-noted-written k ls i [] rest = refl
-noted-written k ls i (p ∷ ps) rest =
+noted-written cs k ls i [] rest = refl
+noted-written cs k ls i (p ∷ ps) rest =
     rw (pending-back p, add-one)
-    (ap (λ (z : List ℕ). nexusBytes i (notedOne k i (any (ofNexus i) ls) p) ++ z) (noted-written k ls (suc i) ps rest))
+    (ap (λ (z : List ℕ). nexusBytes i (notedOne k i (any (ofNexus i) ls) p) (cs i) ++ z) (noted-written cs k ls (suc i) ps rest))
 
 -- one nexus alone
 oneAt : (Pending → Pending) → ℕ → ℕ → List Pending → List Pending
@@ -90,11 +91,11 @@ noted-is HardWasReset ls ps = from-all afterHardReset HardWasReset ls 0 ps (λ i
 noted-is PowerCameOn ls ps = from-all afterPowerOn PowerCameOn ls 0 ps (λ i b p. refl)
 
 pub noted-table :
-    (s : State) (k : Notice) (ls : List Task) → length (s .pending) ≡ 8
-    → notedBytes k ls (tableBytes s) ≡ tableBytes (withPending s (noted k ls (s .pending)))
-unfolding notedBytes tableBytes
-noted-table s k ls eight =
+    (cs : ℕ → ℕ) (s : State) (k : Notice) (ls : List Task) → length (s .pending) ≡ nexuses
+    → notedBytes k ls (tableWith cs s) ≡ tableWith cs (withPending s (noted k ls (s .pending)))
+unfolding notedBytes tableWith
+noted-table cs s k ls eight =
     ap (λ (l : List ℕ). headerBytes (s .header) ++ l)
-    (ap (λ (n : ℕ). eachRecord 8 (notedRecord k ls) nextPlace 0 n (nexusRecords 0 (s .pending) ++ taskRecords (s .tasks))) (sym eight)
-    ∙ noted-written k ls 0 (s .pending) (taskRecords (s .tasks))
-    ∙ ap (λ (ps : List Pending). nexusRecords 0 ps ++ taskRecords (s .tasks)) (noted-is k ls (s .pending)))
+    (ap (λ (n : ℕ). eachRecord nexusSize (notedRecord k ls) nextPlace 0 n (nexusRecords cs 0 (s .pending) ++ taskRecords (s .tasks))) (sym eight)
+    ∙ noted-written cs k ls 0 (s .pending) (taskRecords (s .tasks))
+    ∙ ap (λ (ps : List Pending). nexusRecords cs 0 ps ++ taskRecords (s .tasks)) (noted-is k ls (s .pending)))

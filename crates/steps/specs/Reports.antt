@@ -4,8 +4,9 @@ use mathlib.Core.Path.{_≡_}
 use mathlib.Core.List.{List, [], _∷_, _++_}
 use lib.ListN.{length, take}
 use Rattle.laws.specs.RecordsInLists.{joined}
+use Rattle.rules.specs.Tasks.{places}
 use Rattle.rules.specs.Rulings.{fateOf}
-use Rattle.records.specs.Records.{taskSize, taskFrom, endedBytes}
+use Rattle.records.specs.Records.{endedSize, taskFrom, endedBytes}
 use Rattle.rules.specs.Types.{Task, Fate, Stays, Ends, Ended, Sweep}
 
 abbrev pub endedAs : Fate → Task → List Ended
@@ -16,10 +17,10 @@ endedAs (Ends st) t = record { nexus = t .nexus; status = st; tag = t .tag } ∷
 pub record Listed (w : Sweep) (m : ℕ) (r : List ℕ) (before after : List ℕ) (k : ℕ) : Type 0 where
   pub counted : k ≡ m + length (endedAs (fateOf w (taskFrom r)) (taskFrom r))
   pub long : length after ≡ length before
-  pub listed : take (taskSize * k) after ≡ take (taskSize * m) before ++ joined endedBytes (endedAs (fateOf w (taskFrom r)) (taskFrom r))
+  pub listed : take (endedSize * k) after ≡ take (endedSize * m) before ++ joined endedBytes (endedAs (fateOf w (taskFrom r)) (taskFrom r))
 
 pub record ListedAs (es : List Ended) (before after : List ℕ) (m : ℕ) : Type 0 where
   pub counted : m ≡ length es
-  pub few : m ≤ 64
+  pub few : m ≤ places
   pub long : length after ≡ length before
-  pub listed : take (taskSize * m) after ≡ joined endedBytes es
+  pub listed : take (endedSize * m) after ≡ joined endedBytes es

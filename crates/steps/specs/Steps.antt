@@ -21,6 +21,7 @@ use Rattle.laws.specs.RecordsInLists.{eachRecord, keptRecords}
 use Rattle.rules.specs.Tasks.{nexuses, ofNexus, enabledIf, blockedIfEnabled}
 use Rattle.rules.specs.Bits.{without, afterPowerOn, afterHardReset, afterUnitReset, afterNexusLoss, afterCleared}
 use Rattle.rules.specs.Rulings.{kept, lost, fateOf, endedFrom}
+use Rattle.octets.specs.Sizes.{pendingOffset, attributeOffset, stateOffset}
 use Rattle.records.specs.Numbers.{attributeFrom, stateNumber, stateFrom, pendingNumber, pendingFrom}
 use Rattle.records.specs.Records.{nexusSize, taskSize, taskFrom, unusedBytes}
 use Rattle.decide.specs.OlderTasks.{noOlder, behindBy, eligibleBy}
@@ -31,16 +32,16 @@ use Rattle.records.specs.Tables.{nexusesAt, tasksAt, tasksFrom, unusedRecords}
 -- States -----------------------------------------------------------------------------------------------------------------------------------
 
 abbrev pub settledRecord : Older → List ℕ → List ℕ
-settledRecord o r = set r 4 (stateNumber (enabledIf (eligibleBy o (attributeFrom (getD r 3 0)))))
+settledRecord o r = set r stateOffset (stateNumber (enabledIf (eligibleBy o (attributeFrom (getD r attributeOffset 0)))))
 
 abbrev pub behindRecord : Older → List ℕ → Older
-behindRecord o r = behindBy (attributeFrom (getD r 3 0)) o
+behindRecord o r = behindBy (attributeFrom (getD r attributeOffset 0)) o
 
 unfoldable pub settledBytes : ℕ → List ℕ → List ℕ
 settledBytes n b = take tasksAt b ++ eachRecord taskSize settledRecord behindRecord noOlder n (drop tasksAt b)
 
 abbrev pub blockedRecord : ℕ → List ℕ → List ℕ
-blockedRecord i r = set r 4 (stateNumber (blockedIfEnabled (stateFrom (getD r 4 0))))
+blockedRecord i r = set r stateOffset (stateNumber (blockedIfEnabled (stateFrom (getD r stateOffset 0))))
 
 abbrev pub nextPlace : ℕ → List ℕ → ℕ
 nextPlace i r = i + 1
@@ -102,7 +103,7 @@ abbrev pub losers : Sweep → ℕ → List ℕ → List Task
 losers w n l = lost (map (fateOf w) (tasksFrom n l)) (tasksFrom n l)
 
 abbrev pub notedRecord : Notice → List Task → ℕ → List ℕ → List ℕ
-notedRecord k ls i r = set r 3 (pendingNumber (notedOne k i (any (ofNexus i) ls) (pendingFrom (getD r 3 0))))
+notedRecord k ls i r = set r pendingOffset (pendingNumber (notedOne k i (any (ofNexus i) ls) (pendingFrom (getD r pendingOffset 0))))
 
 unfoldable pub notedBytes : Notice → List Task → List ℕ → List ℕ
 notedBytes k ls b = take nexusesAt b ++ eachRecord nexusSize (notedRecord k ls) nextPlace 0 nexuses (drop nexusesAt b)

@@ -1,11 +1,8 @@
-// What the steps share: which fates and sweeps end somebody, and a byte of a record stored. What each step makes of the bytes is in specs/, its laws
+// What the steps share: which fates and sweeps end somebody. What each step makes of the bytes is in specs/, its laws
 // in proofs/; the loops themselves are in `report`, `note`, `close` and `restate`.
 use values::Fate;
 use values::Sweep;
 ghost use mathlib.Core.Path.{_≡_};
-ghost use Prim.Native.Nat.{_+_, _≤_, _<_};
-ghost use lib.ListN.{length, set};
-ghost use Rattle.laws.specs.RecordsInLists.{recordAt, putAt};
 ghost use Rattle.steps.specs.Steps.{endsFate, endsNobody};
 
 pub fn is_end(f: Fate) -> bool
@@ -30,12 +27,4 @@ pub fn ends_nobody(w: Sweep) -> bool
         Sweep::ClearedBy(_, _) => false,
         Sweep::FailedTask(_, _, _) => false,
     }
-}
-
-// One byte of the record at a place is stored; the contract says it of the record.
-pub fn put_byte(t: &mut [u8], at: usize, i: usize, v: u8)
-    requires { ⌜ (i < 8) × (at + 8 ≤ length (now t)) ⌝ }
-    ensures { λ _. ⌜ now (t .exit) ≡ putAt 8 (now (t .entry)) at (set (recordAt 8 (now (t .entry)) at) i v) ⌝ }
-{
-    t[at + i] = v;
 }

@@ -38,7 +38,7 @@ keep-spec =
     let got = put .before .before in
     let turn = got .before .before in
     keep-on (turn .before .loop .inv) (turn .loop-test .taken)
-    (rw (put .put8 .ensures, got .get8 .ensures))
-    (rw (c .one-unless .ensures .0, c .before .gone .ensures, got .get8 .ensures)))
+    (rw (put .put-tagged .ensures, got .get-tagged .ensures))
+    (rw (c .one-unless .ensures .0, c .before .gone .ensures, got .get-tagged .ensures)))
     (λ c. c .before .loop .inv .long)
     (λ c. keep-ends (c .before .loop .inv) (c .loop-test .left)))

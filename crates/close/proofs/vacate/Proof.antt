@@ -32,6 +32,6 @@ vacate-spec =
     (λ c.
     let put = c .before .before in
     let turn = put .before .before .before in
-    walk-on (turn .before .loop .inv) (turn .loop-test .taken) refl (rw (put .put8 .ensures, put .before .unused-bytes .ensures)) refl)
+    walk-on (turn .before .loop .inv) (turn .loop-test .taken) refl (rw (put .put-tagged .ensures, put .before .unused-bytes .ensures)) refl)
     (λ c. c .before .loop .inv .long)
     (λ c. walk-ends (c .before .loop .inv) (c .loop-test .left)))

@@ -4,6 +4,7 @@ use Prim.Native.Nat.{_≤_, _-_, _+_, _*_}
 use native.Mathlib.Omega.{arith}
 use lib.ListN.{drop}
 use Rattle.laws.specs.Lists.{first}
+use Rattle.octets.specs.Sizes.{taskSize, tasksAt}
 use Rattle.decide.specs.Searches.{wanted, foundIn}
 use Rattle.records.specs.Tables.{tasksFrom}
 use Rattle.records.proofs.TaskRecords.{tasks-next}
@@ -13,7 +14,7 @@ use Rattle.find.proofs.search.Tie as tie
 abbrev Inv-loop : tie.InvT-loop
 Inv-loop t n w i₀ i =
     (i ≤ n)
-    × (foundIn (first (wanted w) (tasksFrom (n - i) (drop (72 + 8 * i) t))) ≡ foundIn (first (wanted w) (tasksFrom n (drop 72 t))))
+    × (foundIn (first (wanted w) (tasksFrom (n - i) (drop (tasksAt + taskSize * i) t))) ≡ foundIn (first (wanted w) (tasksFrom n (drop tasksAt t))))
 
 abbrev μ-loop : tie.MeasureT-loop
 μ-loop t n w i₀ i = n - i
@@ -36,7 +37,7 @@ search-spec =
     let args = c .before .before .before .before .before .before .before .args in
     (rw (
       tasks-next (args .n) (turn .i) (args .t .now) (c .before .before .before .before .loop-test .taken),
-      ← c .before .before .before .get8 .ensures,
+      ← c .before .before .before .get-tagged .ensures,
       ← c .before .before .task-from .ensures,
       ← c .before .wants .ensures,
       c .if1 .taken,
@@ -50,7 +51,7 @@ search-spec =
       omega arith,
       rw (
         tasks-next (args .n) (turn .i) (args .t .now) (c .before .before .before .before .loop-test .taken),
-        ← c .before .before .before .get8 .ensures,
+        ← c .before .before .before .get-tagged .ensures,
         ← c .before .before .task-from .ensures,
         ← c .before .wants .ensures,
         c .if1 .left,

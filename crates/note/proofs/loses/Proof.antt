@@ -5,6 +5,7 @@ use mathlib.Core.Bool.{_||_}
 use native.Mathlib.Omega.{arith}
 use lib.ListN.{drop}
 use Rattle.laws.specs.Lists.{any}
+use Rattle.octets.specs.Sizes.{taskSize, tasksAt}
 use Rattle.rules.specs.Tasks.{ofNexus}
 use Rattle.steps.specs.Steps.{losers}
 use Rattle.steps.proofs.Losers.{losing-next, losing-all}
@@ -13,7 +14,7 @@ use Rattle.note.proofs.loses.Tie as tie
 
 abbrev Inv-loop : tie.InvT-loop
 Inv-loop t n w i found₀ j₀ found j =
-    (j ≤ n) × (found || any (ofNexus i) (losers w (n - j) (drop (72 + 8 * j) t)) ≡ any (ofNexus i) (losers w n (drop 72 t)))
+    (j ≤ n) × (found || any (ofNexus i) (losers w (n - j) (drop (tasksAt + taskSize * j) t)) ≡ any (ofNexus i) (losers w n (drop tasksAt t)))
 
 abbrev μ-loop : tie.MeasureT-loop
 μ-loop t n w i found₀ j₀ found j = n - j
@@ -43,7 +44,7 @@ loses-spec =
         c .before .is-end .ensures,
         c .before .before .fate .ensures,
         c .before .before .before .task-from .ensures,
-        c .before .before .before .before .get8 .ensures,
+        c .before .before .before .before .get-tagged .ensures,
       )
           (losing-next (ofNexus (a .i)) (a .w) (a .n) (a .t .now) (at .loop .any) (at .loop .j) (c .before .before .before .before .before .loop-test .taken)
           ∙ at .loop .inv .1),

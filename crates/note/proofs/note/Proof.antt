@@ -1,16 +1,44 @@
 use borrow.Author.Needs.{needs}
-use Prim.Native.Nat.{_-_}
+use Prim.Native.Nat.{_-_, _+_, _*_}
+use mathlib.Core.Path.{_≡_, refl, _∙_}
+use native.Mathlib.Omega.{arith}
 use lib.ListN.{drop}
-use Rattle.steps.specs.Steps.{losers}
-use Rattle.steps.proofs.Notes.{Noting, noting-none, noting-more, noting-all}
+use lib.Seq.{drop-set-lt}
+use Rattle.octets.specs.Sizes.{nexusSize, nexusesAt, tasksAt, pendingOffset, pendingsAt}
+use Rattle.rules.specs.Tasks.{nexuses}
+use Rattle.steps.specs.Steps.{losers, notedRecord, nextPlace, notedBytes}
+use Rattle.steps.proofs.InPlace.{Walking, byte-of, walk-begins, walk-store, walk-ends}
 use Rattle.note.proofs.note.Statement.{statement}
 use Rattle.note.proofs.note.Tie as tie
 
+-- the tasks behind the nexus records, of which each turn asks who loses one, stay as they were
 abbrev Inv-loop : tie.InvT-loop
-Inv-loop t₀ n w k i₀ t i = Noting k (losers w n (drop 72 t₀)) t₀ t i
+Inv-loop t₀ n w k i₀ t i =
+    Walking nexusSize (notedRecord k (losers w n (drop tasksAt t₀))) nextPlace nexusesAt nexuses t₀ (notedBytes k (losers w n (drop tasksAt t₀)) t₀) t i i
+    × (drop tasksAt t ≡ drop tasksAt t₀)
 
 abbrev μ-loop : tie.MeasureT-loop
-μ-loop t₀ n w k i₀ t i = 8 - i
+μ-loop t₀ n w k i₀ t i = nexuses - i
+
+loop-holds : tie.Need-loop-holds Inv-loop μ-loop
+unfolding notedBytes
+loop-holds c = (walk-begins _ _ (omega arith), refl)
+
+loop-again : tie.Need-loop-again Inv-loop μ-loop
+loop-again c =
+    let told = c .before in
+    let read = told .before in
+    let asked = read .before .before in
+    let turn = asked .before .before in
+    let now = turn .before .loop in
+    let inv = now .inv in
+    let at = pendingsAt + nexusSize * now .i in
+    let byte = byte-of nexusSize (now .t) (nexusesAt + nexusSize * now .i) pendingOffset at (omega arith) (omega arith) in (
+      walk-store (inv .0) (turn .loop-test .taken) pendingOffset _ at (omega arith) (omega arith) refl
+          (rw (c .pending-number .ensures, told .noted-one .ensures, read .pending-from .ensures, asked .loses .ensures, byte, inv .1))
+          refl,
+      drop-set-lt tasksAt (now .t) at _ (omega arith) ∙ inv .1,
+    )
 
 pub note-spec : {M : Type 1} → statement M
 note-spec =
@@ -18,7 +46,7 @@ note-spec =
     (tie.spec
     Inv-loop
     μ-loop
-    (λ c. let a = c .before .args in noting-none (a .k) (losers (a .w) (a .n) (drop 72 (a .t .now))) (a .t .now))
+    loop-holds
     (λ c. search needs)
     (λ c κs. search needs)
     (λ c. search needs)
@@ -26,29 +54,13 @@ note-spec =
     (λ c. search needs)
     (λ c κs. search needs)
     (λ c. search needs)
-    (λ c. search needs)
-    (λ c. search needs)
-    (λ c κs. search needs)
     (λ c κs. search needs)
     (λ c κs. search needs)
     (λ c. search needs)
     (λ c. search needs)
-    (λ c.
-    let at = c .before .before .before .before .before .before .before .before .before .before .before in
-    let start = at .before .before in
-    let a = start .args in
-    rw (
-      c .before .before .put-byte .ensures,
-      c .before .before .before .pending-number .ensures,
-      c .before .before .before .before .noted-one .ensures,
-      c .before .before .before .before .before .before .pending-from .ensures,
-      c .before .before .before .before .before .before .before .before .loses .ensures,
-      at .loop .inv .behind,
-    )
-    (noting-more (a .k) (losers (a .w) (a .n) (drop 72 (a .t .now))) (a .t .now) (at .loop .t) (at .loop .i) (start .pre .0)
-    (c .before .before .before .before .before .before .before .before .before .before .loop-test .taken) (at .loop .inv)))
-    (λ c. c .before .loop .inv .long)
-    (λ c.
-    let at = c .before in
-    let a = at .before .before .args in
-    noting-all (a .k) (losers (a .w) (a .n) (drop 72 (a .t .now))) (a .t .now) (at .loop .t) (at .loop .i) (c .loop-test .left) (at .loop .inv)))
+    (λ c. search needs)
+    (λ c. search needs)
+    (λ c. search needs)
+    loop-again
+    (λ c. c .before .loop .inv .0 .long)
+    (λ c. walk-ends (c .before .loop .inv .0) (c .loop-test .left)))

@@ -36,7 +36,7 @@ list-ends-spec =
     let one = c .before .before .list-one in
     listing-more (a .w) (a .n) (a .t .now) (a .report .now) (at .loop .report) (one .last .0) (at .loop .m) (at .loop .i) (one .result)
     (c .before .before .before .before .before .loop-test .taken) (at .loop .inv)
-    (rw (c .before .before .before .before .get8 .ensures) at (one .ensures)))
+    (rw (c .before .before .before .before .get-tagged .ensures) at (one .ensures)))
     (λ c. c .before .loop .inv .long)
     (λ c.
     let at = c .before in

@@ -28,5 +28,5 @@ list-one-spec =
     let read = c .before .before .before .before .before .before .before .before .before .task-from in
     let start = c .before .before .before .before .before .before .before .before .before .before .before in
     let a = start .args in
-    rw (c .before .before .put8 .ensures, c .before .before .before .ended-bytes .ensures, read .ensures)
+    rw (c .before .before .put-tagged .ensures, c .before .before .before .ended-bytes .ensures, read .ensures)
     (listed-one (a .w) (a .m) (a .r) (a .report .now) (f .0 .0) (rw (read .ensures) at (sym (fate .ensures) ∙ f .1)) (omega (arith, start .pre)))))

@@ -1,5 +1,6 @@
 use borrow.Author.Needs.{needs}
 use lib.ListN.{drop}
+use Rattle.octets.specs.Sizes.{tasksAt}
 use Rattle.steps.specs.Steps.{endsOf}
 use Rattle.steps.proofs.ListedEnds.{report-whole}
 use Rattle.report.proofs.write_report.Statement.{statement}
@@ -21,7 +22,7 @@ write-report-spec =
     let start = c .before .before .before .before .before .before .before .before .before .before in
     let a = start .args in (
       listed .ensures .counted,
-      report-whole (endsOf (a .w) (a .n) (drop 72 (a .t .now))) (a .report .now) _ _ (listed .result)
+      report-whole (endsOf (a .w) (a .n) (drop tasksAt (a .t .now))) (a .report .now) _ _ (listed .result)
           (start .pre .2) (listed .ensures) (c .before .before .zero-rest .ensures),
       listed .ensures .few,
     )))

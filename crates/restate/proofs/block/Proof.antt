@@ -2,10 +2,9 @@ use borrow.Author.Needs.{needs}
 use Prim.Native.Nat.{_-_, _+_, _*_}
 use mathlib.Core.Path.{refl}
 use native.Mathlib.Omega.{arith}
-use Rattle.records.specs.Records.{taskSize}
-use Rattle.records.specs.Tables.{tasksAt}
+use Rattle.octets.specs.Sizes.{taskSize, tasksAt, stateOffset, statesAt}
 use Rattle.steps.specs.Steps.{blockedRecord, nextPlace, blockedBytes}
-use Rattle.steps.proofs.InPlace.{Walking, byte-of, stored-long, walk-begins, walk-on, walk-ends}
+use Rattle.steps.proofs.InPlace.{Walking, byte-of, walk-begins, walk-store, walk-ends}
 use Rattle.restate.proofs.block.Statement.{statement}
 use Rattle.restate.proofs.block.Tie as tie
 
@@ -15,18 +14,29 @@ Inv-loop t₀ n i₀ t i = Walking taskSize blockedRecord nextPlace tasksAt n t�
 abbrev μ-loop : tie.MeasureT-loop
 μ-loop t₀ n i₀ t i = n - i
 
-pub block-spec : {M : Type 1} → statement M
+loop-holds : tie.Need-loop-holds Inv-loop μ-loop
 unfolding blockedBytes
+loop-holds c = walk-begins _ _ (omega arith)
+
+loop-again : tie.Need-loop-again Inv-loop μ-loop
+loop-again c =
+    let chosen = c .before in
+    let read = chosen .before in
+    let turn = read .before .before in
+    let now = turn .before .loop in
+    let byte = byte-of taskSize (now .t) (tasksAt + taskSize * now .i) stateOffset (statesAt + taskSize * now .i) (omega arith) (omega arith) in
+    walk-store (now .inv) (turn .loop-test .taken) stateOffset _ (statesAt + taskSize * now .i) (omega arith) (omega arith) refl
+    (rw (c .state-number .ensures, chosen .blocked-state .ensures, read .state-from .ensures, byte))
+    refl
+
+pub block-spec : {M : Type 1} → statement M
 block-spec =
     tie.close
     (tie.spec
     Inv-loop
     μ-loop
-    (λ c. walk-begins _ _ (omega arith))
+    loop-holds
     (λ c. search needs)
-    (λ c. search needs)
-    (λ c. search needs)
-    (λ c κs. search needs)
     (λ c. search needs)
     (λ c. search needs)
     (λ c κs. search needs)
@@ -34,22 +44,9 @@ block-spec =
     (λ c κs. search needs)
     (λ c. search needs)
     (λ c. search needs)
-    (λ c.
-    let put = c .before .before in
-    let chosen = put .before .before in
-    let read = chosen .before .before in
-    let turn = read .before .before in
-    let now = turn .before .loop in
-    let at = tasksAt + taskSize * now .i in
-    walk-on (now .inv) (turn .loop-test .taken)
-    (stored-long taskSize (now .t) at 4 _ (omega (arith, now .inv .room)))
-    (rw (
-      put .put-byte .ensures,
-      put .before .state-number .ensures,
-      chosen .blocked-state .ensures,
-      read .state-from .ensures,
-      byte-of taskSize (now .t) at 4 (76 + 8 * now .i) (omega arith) (omega arith),
-    ))
-    refl)
+    (λ c. search needs)
+    (λ c. search needs)
+    (λ c. search needs)
+    loop-again
     (λ c. c .before .loop .inv .long)
     (λ c. walk-ends (c .before .loop .inv) (c .loop-test .left)))

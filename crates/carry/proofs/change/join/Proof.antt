@@ -19,5 +19,5 @@ join-spec =
     (λ c. rw (c .enum-told .given .1) (search needs))
     (λ c. search needs)
     (λ c.
-    rw (c .before .before .put8 .ensures, c .before .before .before .task-bytes .ensures, c .before .before .before .before .before .before .j .given .1)
+    rw (c .before .before .put-tagged .ensures, c .before .before .before .task-bytes .ensures, c .before .before .before .before .before .before .j .given .1)
     (search needs)))

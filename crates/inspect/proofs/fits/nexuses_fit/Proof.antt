@@ -4,16 +4,18 @@ use mathlib.Core.Path.{_≡_, refl}
 use Prim.Native.Nat.{_≤_, _-_, _+_, _*_}
 use native.Mathlib.Omega.{arith}
 use lib.ListN.{drop}
+use Rattle.octets.specs.Sizes.{nexusSize, nexusesAt}
+use Rattle.rules.specs.Tasks.{nexuses}
 use Rattle.records.specs.Tables.{nexusesFit}
 use Rattle.inspect.proofs.Loops.{nexuses-next, nexuses-end}
 use Rattle.inspect.proofs.fits.nexuses_fit.Statement.{statement}
 use Rattle.inspect.proofs.fits.nexuses_fit.Tie as tie
 
 abbrev Inv-loop : tie.InvT-loop
-Inv-loop t n₀ n = (n ≤ 8) × (nexusesFit n (8 - n) (drop (8 + 8 * n) t) ≡ nexusesFit 0 8 (drop 8 t))
+Inv-loop t n₀ n = (n ≤ nexuses) × (nexusesFit n (nexuses - n) (drop (nexusesAt + nexusSize * n) t) ≡ nexusesFit 0 nexuses (drop nexusesAt t))
 
 abbrev μ-loop : tie.MeasureT-loop
-μ-loop t n₀ n = 8 - n
+μ-loop t n₀ n = nexuses - n
 
 pub nexuses-fit-spec : {M : Type 1} → statement M
 nexuses-fit-spec =
@@ -32,7 +34,7 @@ nexuses-fit-spec =
     let fits = c .before .nexus-fits in
     (rw (
       nexuses-next (at .before .before .args .t .now) (at .loop .n) (c .before .before .before .loop-test .taken),
-      ← c .before .before .load8 .ensures,
+      ← c .before .before .load-untagged .ensures,
       ← fits .ensures,
       not-true (fits .result) (c .if1 .taken),
     )
@@ -45,7 +47,7 @@ nexuses-fit-spec =
       omega arith,
       (rw (
         nexuses-next (at .before .before .args .t .now) (at .loop .n) (c .before .before .before .loop-test .taken),
-        ← c .before .before .load8 .ensures,
+        ← c .before .before .load-untagged .ensures,
         ← fits .ensures,
         not-false (fits .result) (c .if1 .left),
       )
@@ -53,5 +55,5 @@ nexuses-fit-spec =
     ))
     (λ c.
     let turn = c .before .loop in
-    let all : 8 - turn .n ≡ 0 = omega arith in
+    let all : nexuses - turn .n ≡ 0 = omega arith in
     (rw (all, nexuses-end) at (turn .inv .1))))

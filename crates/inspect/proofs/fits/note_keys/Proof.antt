@@ -4,6 +4,7 @@ use mathlib.Core.List.{List, _++_}
 use Prim.Native.Nat.{ℕ, _≤_, _-_, _+_, _*_}
 use native.Mathlib.Omega.{arith}
 use lib.ListN.{length, take, drop, length-set, take-append-drop}
+use Rattle.octets.specs.Sizes.{taskSize, tasksAt}
 use Rattle.inspect.specs.TableTest.{keysFrom}
 use Rattle.inspect.proofs.Loops.{keys-next}
 use Rattle.inspect.proofs.Keys.{store-next}
@@ -14,7 +15,7 @@ use Rattle.inspect.proofs.fits.note_keys.Tie as tie
 record Noted (t : List ℕ) (n : ℕ) (keys₀ keys : List ℕ) (i : ℕ) : Type 0 where
   long : length keys ≡ 68
   passed : i ≤ n
-  rest : take i keys ++ (keysFrom (n - i) (drop (72 + 8 * i) t) ++ drop n keys) ≡ keysFrom n (drop 72 t) ++ drop n keys₀
+  rest : take i keys ++ (keysFrom (n - i) (drop (tasksAt + taskSize * i) t) ++ drop n keys) ≡ keysFrom n (drop tasksAt t) ++ drop n keys₀
 
 abbrev Inv-loop : tie.InvT-loop
 Inv-loop t n keys₀ i₀ keys i = Noted t n keys₀ keys i
@@ -48,7 +49,7 @@ note-keys-spec =
     let n = args .n in
     let i = turn .i in
     let h = c .before .before .before .loop-test .taken in
-    let rest = keysFrom (n - (i + 1)) (drop (72 + 8 * (i + 1)) (args .t .now)) in
+    let rest = keysFrom (n - (i + 1)) (drop (tasksAt + taskSize * (i + 1)) (args .t .now)) in
     record {
       long = simp length-set (turn .inv .long);
       passed = omega arith;
@@ -57,7 +58,7 @@ note-keys-spec =
             store-next (turn .keys) rest n i (c .key-of .result) h (omega (arith, turn .inv .long)),
             c .key-of .ensures,
             c .before .task-from .ensures,
-            c .before .before .get8 .ensures,
+            c .before .before .get-tagged .ensures,
           )
           (rw (keys-next (args .t .now) n i h) at (turn .inv .rest));
     })

@@ -4,6 +4,7 @@ use mathlib.Core.Path.{refl, sym, _∙_}
 use mathlib.Core.Bool.{false}
 use native.Mathlib.Omega.{arith}
 use lib.ListN.{length}
+use Rattle.octets.specs.Sizes.{tableSize}
 use Rattle.inspect.proofs.TableTest.{count-fits, by-tests}
 use Rattle.inspect.proofs.fits.table_fits.Statement.{statement}
 use Rattle.inspect.proofs.fits.table_fits.Tie as tie
@@ -15,7 +16,7 @@ table-fits-spec =
     (λ c.
     let lent = c .before in
     let t = lent .before .args .t .now in
-    by-tests t _ refl (λ i. (lent .shared-slice-known .given i) .fits) false (rw (ne-eqb (length t) 584 (λ e. omega (arith, c .if1 .taken)))))
+    by-tests t _ refl (λ i. (lent .shared-slice-known .given i) .fits) false (rw (ne-eqb (length t) tableSize (λ e. omega (arith, c .if1 .taken)))))
     (λ c κs. search needs)
     (λ c κs. search needs)
     (λ c.
@@ -23,7 +24,7 @@ table-fits-spec =
     let read = c .before .before in
     let long = read .before in
     let lent = long .before in
-    by-tests (lent .before .args .t .now) (read .load8 .result) (read .load8 .ensures) (λ i. (lent .shared-slice-known .given i) .fits) false
+    by-tests (lent .before .args .t .now) (read .load-untagged .result) (read .load-untagged .ensures) (λ i. (lent .shared-slice-known .given i) .fits) false
     (rw (eq-eqb _ _ (long .if1 .left), ← header .ensures, not-true (header .result) (c .if2 .taken))))
     (λ c κs. search needs)
     (λ c. search needs)
@@ -34,7 +35,7 @@ table-fits-spec =
     let long = read .before in (
       long .if1 .left,
       rw (c .before .header-from .ensures)
-          (count-fits (long .before .before .args .t .now) (read .load8 .result) (read .load8 .ensures) (long .if1 .left)
+          (count-fits (long .before .before .args .t .now) (read .load-untagged .result) (read .load-untagged .ensures) (long .if1 .left)
           (sym (header .ensures) ∙ not-false (header .result) (fits .if2 .left))),
     ))
     (λ c.
@@ -44,6 +45,6 @@ table-fits-spec =
     let read = fits .before .before in
     let long = read .before in
     let lent = long .before in
-    by-tests (lent .before .args .t .now) (read .load8 .result) (read .load8 .ensures) (λ i. (lent .shared-slice-known .given i) .fits) _
+    by-tests (lent .before .args .t .now) (read .load-untagged .result) (read .load-untagged .ensures) (λ i. (lent .shared-slice-known .given i) .fits) _
     (rw (eq-eqb _ _ (long .if1 .left), ← header .ensures, not-false (header .result) (fits .if2 .left))
     (rw (value .ensures) at (c .records-fit .ensures)))))

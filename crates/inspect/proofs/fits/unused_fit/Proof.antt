@@ -6,6 +6,8 @@ use native.Mathlib.Omega.{arith}
 use lib.Dec.{eqb}
 use lib.ListN.{drop}
 use Rattle.laws.proofs.Bits.{no-bit-of-two}
+use Rattle.octets.specs.Sizes.{taskSize, tasksAt}
+use Rattle.rules.specs.Tasks.{places}
 use Rattle.records.specs.Tables.{unusedFit}
 use Rattle.inspect.proofs.Loops.{unused-next, unused-end}
 use Rattle.inspect.proofs.fits.unused_fit.Statement.{statement}
@@ -13,10 +15,10 @@ use Rattle.inspect.proofs.fits.unused_fit.Tie as tie
 
 abbrev Inv-loop : tie.InvT-loop
 Inv-loop t n unlike₀ i₀ unlike i =
-    (i ≤ 64) × ((eqb unlike 0 && unusedFit (64 - i) (drop (72 + 8 * i) t)) ≡ unusedFit (64 - n) (drop (72 + 8 * n) t))
+    (i ≤ places) × ((eqb unlike 0 && unusedFit (places - i) (drop (tasksAt + taskSize * i) t)) ≡ unusedFit (places - n) (drop (tasksAt + taskSize * n) t))
 
 abbrev μ-loop : tie.MeasureT-loop
-μ-loop t n unlike₀ i₀ unlike i = 64 - i
+μ-loop t n unlike₀ i₀ unlike i = places - i
 
 pub unused-fit-spec : {M : Type 1} → statement M
 unused-fit-spec =
@@ -37,7 +39,7 @@ unused-fit-spec =
       omega arith,
       (rw (
         unused-next t (turn .i) (omega arith),
-        ← c .before .load8 .ensures,
+        ← c .before .load-tagged .ensures,
         ← c .unlike-unused .ensures,
         ← and-assoc,
         ← no-bit-of-two (turn .unlike) (c .unlike-unused .result),
@@ -46,5 +48,5 @@ unused-fit-spec =
     ))
     (λ c.
     let turn = c .before .loop in
-    let all : 64 - turn .i ≡ 0 = omega arith in
+    let all : places - turn .i ≡ 0 = omega arith in
     sym (and-true (eqb (turn .unlike) 0)) ∙ (rw (all, unused-end) at (turn .inv .1))))

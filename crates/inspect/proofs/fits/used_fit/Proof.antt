@@ -5,6 +5,7 @@ use mathlib.Core.Path.{_≡_}
 use Prim.Native.Nat.{_≤_, _-_, _+_, _*_}
 use native.Mathlib.Omega.{arith}
 use lib.ListN.{drop}
+use Rattle.octets.specs.Sizes.{taskSize, tasksAt}
 use Rattle.decide.specs.OlderTasks.{noOlder}
 use Rattle.inspect.specs.TableTest.{usedFit}
 use Rattle.inspect.proofs.Loops.{used-next}
@@ -12,7 +13,7 @@ use Rattle.inspect.proofs.fits.used_fit.Statement.{statement}
 use Rattle.inspect.proofs.fits.used_fit.Tie as tie
 
 abbrev Inv-loop : tie.InvT-loop
-Inv-loop t n aca o₀ i₀ o i = (i ≤ n) × (usedFit (n - i) aca o (drop (72 + 8 * i) t) ≡ usedFit n aca noOlder (drop 72 t))
+Inv-loop t n aca o₀ i₀ o i = (i ≤ n) × (usedFit (n - i) aca o (drop (tasksAt + taskSize * i) t) ≡ usedFit n aca noOlder (drop tasksAt t))
 
 abbrev μ-loop : tie.MeasureT-loop
 μ-loop t n aca o₀ i₀ o i = n - i
@@ -38,7 +39,7 @@ used-fit-spec =
     let fits = c .before .fits2 in
     (rw (
       used-next (args .t .now) (args .n) (at .loop .i) (c .before .before .before .before .loop-test .taken) (args .aca) (at .loop .o),
-      ← c .before .before .before .load8 .ensures,
+      ← c .before .before .before .load-tagged .ensures,
       ← c .before .before .task-from .ensures,
       ← fits .ensures,
       not-true (fits .result) (c .if1 .taken),
@@ -52,7 +53,7 @@ used-fit-spec =
     let good = c .before .task-fits in
     (rw (
       used-next (args .t .now) (args .n) (at .loop .i) (c .before .before .before .before .before .before .loop-test .taken) (args .aca) (at .loop .o),
-      ← c .before .before .before .before .before .load8 .ensures,
+      ← c .before .before .before .before .before .load-tagged .ensures,
       ← good .ensures,
       not-true (good .result) (c .if2 .taken),
     )
@@ -70,7 +71,7 @@ used-fit-spec =
       rw (c .behind .ensures, read .ensures)
           (rw (
             used-next (args .t .now) (args .n) (at .loop .i) (c .before .before .before .before .before .before .before .loop-test .taken) (args .aca) (at .loop .o),
-            ← c .before .before .before .before .before .before .load8 .ensures,
+            ← c .before .before .before .before .before .before .load-tagged .ensures,
             ← good .ensures,
             not-false (good .result) (c .before .if2 .left),
             ← read .ensures,

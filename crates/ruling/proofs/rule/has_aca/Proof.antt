@@ -1,5 +1,6 @@
 use borrow.Author.Needs.{needs}
 use lib.ListN.{drop}
+use Rattle.octets.specs.Sizes.{tasksAt}
 use Rattle.rules.specs.Tasks.{acaTask}
 use Rattle.records.specs.Tables.{tasksFrom}
 use Rattle.decide.proofs.Chosen.{here-any}
@@ -18,4 +19,4 @@ has-aca-spec =
     (λ c.
     let a = c .before .before .before .before .before .args in
     rw (c .before .before .enum-told2 .given .1, c .is-here .ensures, c .before .search .ensures)
-    (here-any acaTask (tasksFrom (a .n) (drop 72 (a .t .now))))))
+    (here-any acaTask (tasksFrom (a .n) (drop tasksAt (a .t .now))))))

@@ -1,5 +1,6 @@
 use borrow.Author.Needs.{needs}
 use lib.ListN.{drop}
+use Rattle.octets.specs.Sizes.{tasksAt}
 use Rattle.rules.specs.Tasks.{same}
 use Rattle.records.specs.Tables.{tasksFrom}
 use Rattle.decide.proofs.Chosen.{here-any}
@@ -26,5 +27,5 @@ rule-command-spec =
       c .before .before .has-aca .ensures,
       c .before .before .before .is-here .ensures,
       c .before .before .before .before .search .ensures,
-      here-any (same (a .c .nexus) (a .c .tag)) (tasksFrom (a .h .count) (drop 72 (a .t .now))),
+      here-any (same (a .c .nexus) (a .c .tag)) (tasksFrom (a .h .count) (drop tasksAt (a .t .now))),
     )))

@@ -1,6 +1,7 @@
 use borrow.Author.Needs.{needs}
 use lib.ListN.{drop}
 use Rattle.laws.specs.Lists.{first}
+use Rattle.octets.specs.Sizes.{tasksAt}
 use Rattle.rules.specs.Tasks.{same}
 use Rattle.records.specs.Tables.{tasksFrom}
 use Rattle.decide.proofs.Chosen.{task-found}
@@ -25,5 +26,5 @@ rule-completion-spec =
       c .before .is-named .ensures,
       c .before .before .turn-in .ensures,
       c .before .before .before .search .ensures,
-      task-found (first (same (a .nexus) (a .g)) (tasksFrom (a .h .count) (drop 72 (a .t .now)))),
+      task-found (first (same (a .nexus) (a .g)) (tasksFrom (a .h .count) (drop tasksAt (a .t .now)))),
     )))
