@@ -10,7 +10,7 @@ use Rattle.rules.specs.Tasks.{places, nexuses}
 use Rattle.rules.specs.Bits.{noPending, afterPowerOn}
 use Rattle.rules.specs.Rulings.{fresh}
 use Rattle.records.specs.Records.{headSize, nexusSize, headerBytes, nexusBytes}
-use Rattle.records.specs.Tables.{tableSize, tasksAt, nexusRecords, unusedRecords, tableBytes}
+use Rattle.records.specs.Tables.{tableSize, tasksAt, nexusRecords, unusedRecords, tableWith, tableBytes}
 use Rattle.steps.specs.Steps.{nextPlace, vacatedBytes}
 use Rattle.steps.proofs.Closes.{cleared}
 use Rattle.steps.proofs.InPlace.{each-new}
@@ -22,14 +22,14 @@ powerOn = afterPowerOn noPending
 
 renewed :
     (m i : ℕ) (l : List ℕ)
-    → eachRecord nexusSize freshNexus nextPlace i m l ≡ nexusRecords i (replicate m powerOn) ++ drop (nexusSize * m) l
+    → eachRecord nexusSize freshNexus nextPlace i m l ≡ nexusRecords (λ j. 0) i (replicate m powerOn) ++ drop (nexusSize * m) l
 unfolding nexusRecords
 renewed m i l =
-    each-new nexusSize (λ j. nexusBytes j powerOn) (λ k j. nexusRecords j (replicate k powerOn)) (λ j. refl) (λ k j. rw (add-one j)) m i l
+    each-new nexusSize (λ j. nexusBytes j powerOn 0) (λ k j. nexusRecords (λ i. 0) j (replicate k powerOn)) (λ j. refl) (λ k j. rw (add-one j)) m i l
 
 module _ (b head : List ℕ) (long : length b ≡ tableSize) (wide : length head ≡ headSize) where
   told : List ℕ
-  told = nexusRecords 0 (replicate nexuses powerOn)
+  told = nexusRecords (λ j. 0) 0 (replicate nexuses powerOn)
 
   told-long : length (head ++ told) ≡ tasksAt
   unfolding told nexusRecords
@@ -64,5 +64,5 @@ module _ (b head : List ℕ) (long : length b ≡ tableSize) (wide : length head
 pub fresh-bytes :
     (p : Policy) (b : List ℕ) → length b ≡ tableSize
     → vacatedBytes 0 places (freshNexuses (putAt headSize b 0 (headerBytes ((fresh p) .header)))) ≡ tableBytes (fresh p)
-unfolding tableBytes fresh told
+unfolding tableBytes tableWith fresh told
 fresh-bytes p b long = tasks-fresh b (headerBytes ((fresh p) .header)) long refl

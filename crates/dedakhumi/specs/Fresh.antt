@@ -8,7 +8,7 @@ use Rattle.records.specs.Records.{nexusBytes}
 use Rattle.steps.specs.Steps.{nextPlace}
 
 abbrev pub freshNexus : ℕ → List ℕ → List ℕ
-freshNexus i r = nexusBytes i (afterPowerOn noPending)
+freshNexus i r = nexusBytes i (afterPowerOn noPending) 0
 
 unfoldable pub freshNexuses : List ℕ → List ℕ
 freshNexuses b = take 8 b ++ eachRecord 8 freshNexus nextPlace 0 8 (drop 8 b)

@@ -1,7 +1,8 @@
 // Apply one event.
 use carry::change::change;
 use inspect::fits::table_fits;
-use octets::get8;
+use octets::sizes::REPORT_SIZE;
+use octets::untagged::get_untagged;
 use records::events::EventRead;
 use records::events::event_of;
 use records::header::header_from;
@@ -12,11 +13,14 @@ use values::Answer;
 use values::Applied;
 use values::Event;
 use values::Header;
+use values::NEXUS_BOUND;
 use values::Ruling;
 ghost use mathlib.Core.Path.{_≡_};
 ghost use mathlib.Core.Bool.{true, cond};
 ghost use Prim.Native.Nat.{_<_};
 ghost use lib.ListN.{length, replicate};
+ghost use Rattle.octets.specs.Sizes.{reportSize};
+ghost use Rattle.rules.specs.Tasks.{nexuses};
 ghost use Rattle.rules.specs.Rulings.{ruled};
 ghost use Rattle.rules.specs.Rules.{nexusOf, ruling};
 ghost use Rattle.rules.specs.Well.{wellFormed};
@@ -50,7 +54,7 @@ fn zero_if(report: &mut [u8], write: bool)
 }
 
 fn carry_out(t: &mut [u8], report: &mut [u8], h: Header, r: Ruling) -> Applied
-    requires { ⌜ (goodTable (now t) ≡ true) × (length (now report) ≡ 512) × (h ≡ (stateOf (now t)) .header) × (wellFormed (ruled (stateOf (now t)) r) ≡ true) × (ruled (stateOf (now t)) r .header .policy ≡ stateOf (now t) .header .policy) ⌝ }
+    requires { ⌜ (goodTable (now t) ≡ true) × (length (now report) ≡ reportSize) × (h ≡ (stateOf (now t)) .header) × (wellFormed (ruled (stateOf (now t)) r) ≡ true) × (ruled (stateOf (now t)) r .header .policy ≡ stateOf (now t) .header .policy) ⌝ }
     ensures { λ a. ⌜ AppliedAs (carried (now (t .entry)) (now (report .entry)) (stateOf (now (t .entry))) r) a (now (t .exit)) (now (report .exit)) ⌝ }
 {
     let aca = h.aca;
@@ -73,10 +77,10 @@ fn carry_out(t: &mut [u8], report: &mut [u8], h: Header, r: Ruling) -> Applied
 }
 
 fn on_event(t: &mut [u8], report: &mut [u8], e: Event) -> Applied
-    requires { ⌜ (goodTable (now t) ≡ true) × (length (now report) ≡ 512) × (nexusOf e < 8) ⌝ }
+    requires { ⌜ (goodTable (now t) ≡ true) × (length (now report) ≡ reportSize) × (nexusOf e < nexuses) ⌝ }
     ensures { λ a. ⌜ AppliedAs (carried (now (t .entry)) (now (report .entry)) (stateOf (now (t .entry))) (ruling (stateOf (now (t .entry))) e)) a (now (t .exit)) (now (report .exit)) ⌝ }
 {
-    let h = header_from(get8(t, 0));
+    let h = header_from(get_untagged(t, 0));
     let r = rule(t, h, e);
     carry_out(t, report, h, r)
 }
@@ -97,13 +101,13 @@ pub fn apply(t: &mut [u8], report: &mut [u8], event: &[u8]) -> Applied
     if !table_fits(t) {
         return refuse(Answer::BadTable);
     }
-    if report.len() != 512 {
+    if report.len() != REPORT_SIZE {
         return refuse(Answer::BadReport);
     }
     let EventRead::Readable(e) = event_of(event) else {
         return refuse(Answer::BadEvent);
     };
-    if 8 <= nexus_of(e) {
+    if NEXUS_BOUND <= nexus_of(e) {
         return refuse(Answer::NexusAboveSeven);
     }
     on_event(t, report, e)

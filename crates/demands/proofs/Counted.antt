@@ -11,6 +11,7 @@ use Rattle.laws.specs.Lists.{one-if}
 use Rattle.rules.specs.Tasks.{isNamed}
 use Rattle.rules.specs.Rulings.{State, isClear, turn}
 use Rattle.rules.proofs.WellKept.{Tested}
+use Rattle.records.proofs.ReadBack.{written-aca}
 use Rattle.records.specs.Numbers.{acaNumber}
 use Rattle.records.specs.Tables.{reportSize, tableBytes}
 use Rattle.records.specs.Events.{eventOf}
@@ -41,10 +42,6 @@ done-number BadPolicy = refl
 clear-byte : (a : Allegiance) → eqb (acaNumber a) 0 ≡ isClear a
 clear-byte Clear = refl
 clear-byte (Faulted f) = ne-eqb (f + 1) 0 (λ e. omega arith)
-
-aca-byte : (s : State) → getD (tableBytes s) 5 0 ≡ acaNumber (s .header .aca)
-unfolding tableBytes
-aca-byte s = refl
 
 named-by : (n g : ℕ) (u : Turn) → isNamedBy (turnFor (naming Done u)) (record { nexus = n; tag = g }) ≡ isNamed n g u
 named-by n g Nothing = refl
@@ -90,7 +87,7 @@ fits m = eqb (length (m .report)) reportSize
 turn-is : (s : State) (m : Call) → Tested s → isTurnBy (tableBytes s) m ≡ turnIf (fits m) s (eventOf (m .event))
 unfolding isTurnBy
 turn-is s m w =
-    rw (aca-byte s, clear-byte (s .header .aca), named-is s w, outcome-is s m w, done-number ((expected s m) .answer))
+    rw (written-aca s, clear-byte (s .header .aca), named-is s w, outcome-is s m w, done-number ((expected s m) .answer))
     (turn-if s (m .report) (m .event) (fits m) (eventOf (m .event)) (event-reads (m .event) (eventOf (m .event)) refl))
 
 one-event :

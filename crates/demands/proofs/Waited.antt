@@ -10,7 +10,7 @@ use Rattle.rules.specs.Rulings.{taskName, endedName, sameName}
 use Rattle.rules.specs.Rules.{newTask}
 use Rattle.records.specs.Numbers.{policyFrom}
 use Rattle.records.specs.Tables.{countIn}
-use Rattle.records.proofs.ReadBack.{table-count}
+use Rattle.records.proofs.ReadBack.{written-count}
 use Rattle.history.specs.History.{Past, advance, play, after, turns}
 use Rattle.history.proofs.Reached.{tested-after}
 use Rattle.history.proofs.Wait.{waits}
@@ -29,7 +29,7 @@ use Rattle.demands.proofs.Followed.{started-opened, table-after, after-
 module _ (p : Policy) (ms : List Call) where
   -- the byte of the header that demand 3 speaks of
   count-after : countIn (tableBy (opened p) ms) ≡ length ((after p (eventsIn ms)) .state .tasks)
-  count-after = rw (table-after p ms) (table-count ((after p (eventsIn ms)) .state) ∙ tested-after p (eventsIn ms) .counted)
+  count-after = rw (table-after p ms) (written-count ((after p (eventsIn ms)) .state) ∙ tested-after p (eventsIn ms) .counted)
 
   turns-after : (later : List Call) → turnsBy (tableBy (opened p) ms) later ≡ turns (after p (eventsIn ms)) (eventsIn later)
   turns-after later = rw (table-after p ms) (turns-run later (after p (eventsIn ms)) (tested-after p (eventsIn ms)))

@@ -10,7 +10,7 @@ use Rattle.rules.specs.Rulings.{fresh}
 use Rattle.rules.specs.Rules.{newTask, enter, complete, ruleFor, ruling}
 use Rattle.rules.specs.Well.{wellFormed}
 use Rattle.records.specs.Events.{eventFrom, eventOf}
-use Rattle.records.specs.Tables.{countIn, tasksFrom, pendingsFrom, stateOf, nexusRecords, unusedRecords, tableBytes, reportBytes, nexusesFit, tasksFit, unusedFit, goodTable}
+use Rattle.records.specs.Tables.{countIn, tasksFrom, pendingsFrom, stateOf, nexusRecords, unusedRecords, tableWith, tableBytes, reportBytes, nexusesFit, tasksFit, unusedFit, goodTable}
 use Rattle.operations.specs.Operations.{outcome, named, started}
 use Rattle.numbers.specs.Boundary.{startNumber}
 use Rattle.demands.specs.Calls.{Call, applied, tableBy}
@@ -68,7 +68,7 @@ pub record Witnessed : Type 0 where
   pub present : presentIn (tableBy waiting fifthTurn) ≡ name 1 9 ∷ []
 
 pub witnessed : Witnessed
-unfolding whoseTurn fresh newTask enter complete ruleFor ruling wellFormed eventFrom eventOf tasksFrom pendingsFrom stateOf nexusRecords unusedRecords tableBytes reportBytes nexusesFit tasksFit unusedFit goodTable outcome named started isTurnBy
+unfolding whoseTurn fresh newTask enter complete ruleFor ruling wellFormed eventFrom eventOf tasksFrom pendingsFrom stateOf nexusRecords unusedRecords tableWith tableBytes reportBytes nexusesFit tasksFit unusedFit goodTable outcome named started isTurnBy
 witnessed =
     record {
       begins = refl;

@@ -14,9 +14,9 @@ use Rattle.laws.proofs.Bools.{and-true, or-false, split}
 use Rattle.octets.specs.Sizes.{headSize, taskSize, tasksAt, tableSize, nexusesAt, countOffset, acaOffset, runOffset, nexusOffset}
 use Rattle.rules.specs.Tasks.{places, nexuses, same}
 use Rattle.rules.specs.Well.{statesFit, faultFits, distinct, tooHigh, wellFormed}
-use Rattle.records.specs.Numbers.{tagFrom, acaFrom}
+use Rattle.records.specs.Numbers.{tagIn, acaFrom}
 use Rattle.records.specs.Records.{headerFrom, headerFits, taskFrom, taskFits}
-use Rattle.records.specs.Tables.{Bytes, tasksFrom, stateOf, nexusesFit, tasksFit, unusedFit, goodTable}
+use Rattle.records.specs.Tables.{countIn, Bytes, tasksFrom, stateOf, nexusesFit, tasksFit, unusedFit, goodTable}
 use Rattle.records.proofs.TaskRecords.{task-nexus-low}
 use Rattle.records.proofs.Good.{length-tasks-from, length-pendings-from, header-good, bytes-drop}
 use Rattle.decide.specs.OlderTasks.{noOlder, behindBy, fitsBy, fitBy}

@@ -26,7 +26,7 @@ use Rattle.records.specs.Numbers.{flag, stateNumber, stateFits, acaNumbe
 use Rattle.records.specs.Records.{headerBytes, headerFits, nexusFits, taskBytes, taskFits, unusedFits}
 use Rattle.records.specs.Tables.{Bytes, countIn, stateOf, nexusRecords, unusedRecords, taskRecords, countsOf, tableBytes, GoodTable, nexusesFit, tasksFit, unusedFit, goodTable}
 use Rattle.records.proofs.Values.{attribute-fits, pending-fits}
-use Rattle.records.proofs.ReadBack.{state-back-again, length-table, table-header, table-count, table-behind-header, table-tasks, behind-used}
+use Rattle.records.proofs.ReadBack.{state-back-again, length-table, table-header, written-count, table-behind-header, table-tasks, behind-used}
 use Rattle.records.proofs.Good.{table-tested, tested-table, table-good}
 
 -- What is written fits ---------------------------------------------------------------------------------------------------------------------
@@ -99,7 +99,7 @@ good-written s w =
     })
   where
     count : countIn (tableBytes s) ≡ length (s .tasks)
-    count = table-count (countsOf s) s ∙ w .counted
+    count = written-count s ∙ w .counted
 
 -- a table of bytes is good exactly if it is the writing of a well-formed state
 pub good-is-written : (b : List ℕ) → Bytes b → (goodTable b ≡ true) ↔ (WellFormed (stateOf b) × (tableBytes (stateOf b) ≡ b))

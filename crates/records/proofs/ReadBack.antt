@@ -4,13 +4,14 @@ use mathlib.Core.Path.{_≡_, refl, ap, sym, _∙_}
 use mathlib.Core.List.{List, [], _∷_, _++_, append-assoc}
 use native.Mathlib.Nat.{mul-suc, mul-zero}
 use native.Mathlib.Omega.{arith}
-use lib.ListN.{length, take, drop, length-append}
+use lib.ListN.{length, getD, take, drop, length-append}
 use lib.Seq.{drop-drop, drop-at, take-at}
 use Rattle.laws.specs.RecordsInLists.{recordAt, joined}
-use Rattle.octets.specs.Sizes.{headSize, nexusSize, taskSize, tasksAt, tableSize}
+use Rattle.octets.specs.Sizes.{headSize, nexusSize, taskSize, tasksAt, tableSize, acaOffset}
 use Rattle.rules.specs.Tasks.{places, nexuses}
 use Rattle.rules.specs.Rulings.{State}
 use Rattle.rules.specs.Types.{Task, Pending}
+use Rattle.records.specs.Numbers.{acaNumber}
 use Rattle.records.specs.Records.{headerBytes, headerFrom, taskBytes, taskFrom}
 use Rattle.records.specs.Tables.{tasksFrom, pendingsFrom, countIn, stateOf, nexusRecords, unusedRecords, taskRecords, tableWith, countsOf, tableBytes}
 use Rattle.records.proofs.Values.{attribute-back, state-back, flag-back, aca-back, policy-back, pending-back, tag-back}
@@ -95,6 +96,15 @@ module _ (cs : ℕ → ℕ) (s : State) (eight : length (s .pending) ≡ nexuses
       ∙ ap (drop (taskSize * length (s .tasks))) table-tasks
       ∙ drop-at (joined taskBytes (s .tasks)) (unusedRecords (places - length (s .tasks))) (taskSize * length (s .tasks))
       (length-joined taskSize taskBytes (λ t. refl) (s .tasks))
+
+-- two bytes of the table of a state
+pub written-count : (s : State) → countIn (tableBytes s) ≡ s .header .count
+unfolding tableBytes
+written-count s = table-count (countsOf s) s
+
+pub written-aca : (s : State) → getD (tableBytes s) acaOffset 0 ≡ acaNumber (s .header .aca)
+unfolding tableBytes tableWith
+written-aca s = refl
 
 -- reading what was written gives the state back
 pub state-back-again :

@@ -20,7 +20,7 @@ on-event-spec =
     (λ c κs. search needs)
     (λ c κs.
     let read = c .before in
-    let got = read .before .get8 in
+    let got = read .before .get-untagged in
     let start = read .before .before .before .before .before in
     let t = start .args .t .now in (
       table-tested t (start .pre .0) .long,
@@ -30,7 +30,7 @@ on-event-spec =
     (λ c κs.
     let rule = c .before .before in
     let read = rule .before .before in
-    let got = read .before .get8 in
+    let got = read .before .get-untagged in
     let start = read .before .before .before .before .before in
     let t = start .args .t .now in
     let e = start .args .e in
@@ -48,7 +48,7 @@ on-event-spec =
     let carry = c .before .before .before .before in
     let rule = carry .before .before .before in
     let read = rule .before .before in
-    let got = read .before .get8 in
+    let got = read .before .get-untagged in
     let start = read .before .before .before .before .before in
     let t = start .args .t .now in
     let h = header-read t (got .result) (read .header-from .result) (got .ensures) (read .header-from .ensures) in

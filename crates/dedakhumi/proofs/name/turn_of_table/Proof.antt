@@ -18,7 +18,7 @@ turn-of-table-spec =
     let start = read .before .before .before in
     let t = start .args .t .now in (
       table-tested t (start .pre) .long,
-      rw (header-read t (read .before .get8 .result) (read .header-from .result) (read .before .get8 .ensures) (read .header-from .ensures))
+      rw (header-read t (read .before .get-untagged .result) (read .header-from .result) (read .before .get-untagged .ensures) (read .header-from .ensures))
           (good-few t (start .pre)),
     ))
     (λ c.
@@ -27,4 +27,4 @@ turn-of-table-spec =
     let t = start .args .t .now in
     let h = read .header-from .result in
     c .turn-in .ensures
-    ∙ turn-read t h (start .pre) (header-read t (read .before .get8 .result) h (read .before .get8 .ensures) (read .header-from .ensures))))
+    ∙ turn-read t h (start .pre) (header-read t (read .before .get-untagged .result) h (read .before .get-untagged .ensures) (read .header-from .ensures))))

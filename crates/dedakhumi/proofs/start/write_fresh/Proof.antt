@@ -22,5 +22,5 @@ write-fresh-spec =
     let put = told .before .before .before .before in
     let made = put .before .before .before in
     let a = made .before .before .args in
-    rw (tasks .vacate .ensures, told .write-nexuses .ensures, put .put8 .ensures, put .before .header-bytes .ensures, made .policy-from .ensures)
+    rw (tasks .vacate .ensures, told .write-nexuses .ensures, put .put-untagged .ensures, put .before .header-bytes .ensures, made .policy-from .ensures)
     (fresh-bytes (policyFrom (a .policy)) (a .t .now) (made .before .before .pre))))

@@ -38,7 +38,7 @@ write-nexuses-spec =
     let made = put .before in
     let turn = made .before .before .before in
     walk-on (turn .before .loop .inv) (turn .loop-test .taken) refl
-    (rw (put .put8 .ensures, made .nexus-bytes .ensures, made .before .after-power-on .ensures))
+    (rw (put .put-untagged .ensures, made .nexus-bytes .ensures, made .before .after-power-on .ensures))
     refl)
     (λ c. c .before .loop .inv .long)
     (λ c. walk-ends (c .before .loop .inv) (c .loop-test .left)))
