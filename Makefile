@@ -77,7 +77,7 @@ build/$(1)-sanitized: $(2) $(ARCHIVE) $(HEADER) $(wildcard $(3))
 endef
 $(eval $(call program,night,driver/*.c,driver/*.h,))
 $(eval $(call program,compare,tests/compare/*.c second/*.c,tests/compare/*.h second/*.h,-Isecond))
-$(eval $(call program,pages,tests/pages/*.c,tests/pages/*.h,))
+$(eval $(call program,pages,tests/pages/*.c,tests/pages/*.h second/layout.h,-Isecond))
 $(eval $(call program,outside,tests/outside/*.c,tests/outside/*.h,))
 $(eval $(call program,replay,tests/cases/*.c,tests/cases/*.h,))
 
