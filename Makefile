@@ -78,7 +78,7 @@ endef
 $(eval $(call program,night,driver/*.c,driver/*.h,))
 $(eval $(call program,compare,tests/compare/*.c second/*.c,tests/compare/*.h second/*.h,-Isecond))
 $(eval $(call program,pages,tests/pages/*.c,tests/pages/*.h second/layout.h,-Isecond))
-$(eval $(call program,outside,tests/outside/*.c,tests/outside/*.h,))
+$(eval $(call program,outside,tests/outside/*.c,tests/outside/*.h second/layout.h,-Isecond))
 $(eval $(call program,replay,tests/cases/*.c,tests/cases/*.h,))
 
 # One after the other, the quick ones first. The last line is that of `rt ci`: N passed, 0 failed.
