@@ -82,7 +82,7 @@ $(eval $(call program,outside,tests/outside/*.c,tests/outside/*.h second/layout.
 $(eval $(call program,replay,tests/cases/*.c,tests/cases/*.h,))
 
 # One after the other, the quick ones first. The last line is that of `rt ci`: N passed, 0 failed.
-TESTS := need header promises install driver outside pages cases compare
+TESTS := need header crates promises install driver outside pages cases compare
 .PHONY: test
 test:
 	@for test in $(TESTS); do \
@@ -102,6 +102,9 @@ test-header:
 	$(COMPILE_CXX) -fsyntax-only -x c++ $(HEADER)
 	$(COMPILE_C) -fsyntax-only tests/header/layout.c
 	$(COMPILE_CXX) -fsyntax-only -x c++ tests/header/layout.c
+
+test-crates: tests/crates
+	tests/crates
 
 test-install: $(ARCHIVE)
 	tests/install/run
