@@ -77,12 +77,12 @@ build/$(1)-sanitized: $(2) $(ARCHIVE) $(HEADER) $(wildcard $(3))
 endef
 $(eval $(call program,night,driver/*.c,driver/*.h,))
 $(eval $(call program,compare,tests/compare/*.c second/*.c,tests/compare/*.h second/*.h,-Isecond))
-$(eval $(call program,pages,tests/pages/*.c,tests/pages/*.h,))
-$(eval $(call program,outside,tests/outside/*.c,tests/outside/*.h,))
+$(eval $(call program,pages,tests/pages/*.c,tests/pages/*.h second/layout.h,-Isecond))
+$(eval $(call program,outside,tests/outside/*.c,tests/outside/*.h second/layout.h,-Isecond))
 $(eval $(call program,replay,tests/cases/*.c,tests/cases/*.h,))
 
 # One after the other, the quick ones first. The last line is that of `rt ci`: N passed, 0 failed.
-TESTS := need header promises install driver outside pages cases compare
+TESTS := need header crates promises install driver outside pages cases compare
 .PHONY: test
 test:
 	@for test in $(TESTS); do \
@@ -102,6 +102,9 @@ test-header:
 	$(COMPILE_CXX) -fsyntax-only -x c++ $(HEADER)
 	$(COMPILE_C) -fsyntax-only tests/header/layout.c
 	$(COMPILE_CXX) -fsyntax-only -x c++ tests/header/layout.c
+
+test-crates: tests/crates
+	tests/crates
 
 test-install: $(ARCHIVE)
 	tests/install/run

@@ -3,6 +3,7 @@
 #include <stdlib.h>
 
 #include "dedakhumi.h"
+#include "layout.h"
 
 #ifdef SECOND
 #include "second.h"
@@ -13,20 +14,16 @@
 #define APPLY dedakhumi_apply
 #endif
 
-enum kind { COMMAND = 1, COMPLETION = 2 };
-/* Bit 1 of a COMMAND's second byte: the power on that a fresh table has pending is not told. */
-enum { EXEMPT = 2 };
+static uint8_t table[TABLE_LENGTH], report[REPORT_LENGTH];
 
-static uint8_t table[DEDAKHUMI_TABLE_LENGTH], report[DEDAKHUMI_REPORT_LENGTH];
-
-static void apply(enum kind kind, unsigned number)
+/* COMMANDs are exempt, so that the power on that a fresh table has pending is not told. */
+static void apply(uint8_t kind, unsigned number)
 {
-	unsigned nexus = number % 8;
-	uint8_t event[DEDAKHUMI_EVENT_LENGTH] = {0x54, 0x56, (uint8_t)kind, (uint8_t)nexus, 0, kind == COMMAND ? EXEMPT : 0,
-						 (uint8_t)(number >> 8), (uint8_t)number};
+	uint8_t nexus = number % NEXUS_COUNT;
+	uint8_t event[EVENT_LENGTH] = {0x54, 0x56, kind, nexus, 0, kind == COMMAND ? COMMAND_EXEMPT : 0, TAG_BYTES(number)};
 	struct dedakhumi_answer answer = APPLY(table, sizeof table, report, sizeof report, event, sizeof event);
 	if (answer.answer != 0) {
-		fprintf(stderr, "kind %u of %u.%u was answered %u\n", (unsigned)kind, nexus, number, answer.answer);
+		fprintf(stderr, "kind %u of %u.%u was answered %u\n", kind, nexus, number, answer.answer);
 		exit(1);
 	}
 }

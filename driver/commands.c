@@ -1,6 +1,6 @@
 #include "commands.h"
 
-static void hear_at_entry(struct box *box, uint8_t nexus, uint16_t tag, struct request request, const struct dedakhumi_answer *answer)
+static void hear_at_entry(struct box *box, uint8_t nexus, tag_number tag, struct request request, const struct dedakhumi_answer *answer)
 {
 	struct word word = {.nexus = nexus, .tag = tag, .status = answer->status, .key = answer->key, .code = answer->code,
 		.qualifier = answer->qualifier};
@@ -9,7 +9,7 @@ static void hear_at_entry(struct box *box, uint8_t nexus, uint16_t tag, struct r
 		trace_note("the %s has too much to repeat, and gives this one up", host_name(nexus));
 }
 
-void box_command_tagged(struct box *box, uint8_t nexus, uint16_t tag, struct request request)
+void box_command_tagged(struct box *box, uint8_t nexus, tag_number tag, struct request request)
 {
 	struct event event = command_event(nexus, tag, request.attribute, request.control);
 	struct host *host = &box->hosts.host[nexus];
@@ -26,9 +26,9 @@ void box_command_tagged(struct box *box, uint8_t nexus, uint16_t tag, struct req
 		box->faults++;
 }
 
-uint16_t box_command(struct box *box, uint8_t nexus, struct request request)
+tag_number box_command(struct box *box, uint8_t nexus, struct request request)
 {
-	uint16_t tag = host_next_tag(&box->hosts.host[nexus]);
+	tag_number tag = host_next_tag(&box->hosts.host[nexus]);
 	box_command_tagged(box, nexus, tag, request);
 	return tag;
 }
@@ -48,7 +48,7 @@ void box_commands_again(struct box *box)
 		host_commands_again(box, nexus);
 }
 
-void box_abort_task(struct box *box, uint8_t nexus, uint16_t tag)
+void box_abort_task(struct box *box, uint8_t nexus, tag_number tag)
 {
 	struct event event = abort_task_event(nexus, tag);
 	box_apply(box, &event, "");

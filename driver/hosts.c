@@ -9,7 +9,7 @@ const char *host_name(unsigned nexus)
 	return nexus < DEDAKHUMI_NEXUSES ? names[nexus] : "stranger";
 }
 
-uint16_t host_next_tag(struct host *host)
+tag_number host_next_tag(struct host *host)
 {
 	return ++host->last_tag;
 }

@@ -2,12 +2,13 @@
 #include <string.h>
 
 #include "commands.h"
+#include "records.h"
 #include "refusals.h"
 #include "scenes.h"
 #include "turns.h"
 #include "wishes.h"
 
-enum { YIELD_GATEWAY = 4, KERNEL = 7, STRANGER = 8, CDB_CONTROL_NACA = 0x04 };
+enum { YIELD_GATEWAY = 4, KERNEL = 7, STRANGER = DEDAKHUMI_NEXUSES, CDB_CONTROL_NACA = 0x04 };
 
 /* The CDB's control byte has NACA in bit 2; in an event record it is bit 0, and bit 2 has to be 0. */
 static void copy_control_byte(struct box *box)
@@ -28,10 +29,13 @@ static void lend_a_short_report(struct box *box)
 {
 	struct port before = box->port;
 	struct event event = completion_event(YIELD_GATEWAY, 9000, DEDAKHUMI_STATUS_GOOD);
+	size_t short_length = sizeof box->port.report - 1;
+	struct text detail = {.used = 0};
+	text_add(&detail, "(report of %zu bytes)", short_length);
 	trace_before(&box->trace, &box->port);
 	struct dedakhumi_answer answer = dedakhumi_apply(box->port.table, sizeof box->port.table, box->port.report,
-		sizeof box->port.report - 1, event.bytes, sizeof event.bytes);
-	trace_event(&box->trace, &box->port, &event, "(report of 511 bytes)", &answer);
+		short_length, event.bytes, sizeof event.bytes);
+	trace_event(&box->trace, &box->port, &event, detail.bytes, &answer);
 	after_refusal(box, &event, answer.answer);
 	if (memcmp(&before, &box->port, sizeof before) != 0)
 		box->faults++;
@@ -51,7 +55,7 @@ void scene_damaged_table(const struct box *box)
 	struct box copy = *box;
 	trace_title("12. A bit falls over in a copy of the table: every event is refused, and the driver starts over");
 	box_command(&copy, KERNEL, read_of(12));
-	copy.port.table[DEDAKHUMI_TASK_OFFSET + 4] ^= 0x01;
+	copy.port.table[DEDAKHUMI_TASK_OFFSET + TASK_STATE] ^= 0x01;
 	box_run_next(&copy);
 	box_command(&copy, KERNEL, read_of(12));
 	box_commands_again(&copy);

@@ -71,47 +71,46 @@ void add_request(struct text *text, const struct request *request)
 		text_add(text, " tile %u", request->tile);
 }
 
-static void add_command(struct text *text, const uint8_t *bytes, unsigned tag)
+static void add_command(struct text *text, const struct event_fields *command)
 {
-	text_add(text, "%u.%u %s", bytes[3], tag, attribute_name(bytes[4]));
-	if (bytes[5] & DEDAKHUMI_CONTROL_NACA)
+	text_add(text, "%u.%u %s", command->nexus, command->tag, attribute_name(command->first));
+	if (command->second & DEDAKHUMI_CONTROL_NACA)
 		text_add(text, " NACA");
-	if (bytes[5] & DEDAKHUMI_CONTROL_EXEMPT)
+	if (command->second & DEDAKHUMI_CONTROL_EXEMPT)
 		text_add(text, " exempt");
 }
 
-static void add_condition(struct text *text, const uint8_t *bytes)
+static void add_condition(struct text *text, const struct event_fields *condition)
 {
-	text_add(text, "%s", condition_name(bytes[4]));
-	if (bytes[4] == DEDAKHUMI_CONDITION_NEXUS_LOSS)
-		text_add(text, " of %u", bytes[3]);
+	text_add(text, "%s", condition_name(condition->first));
+	if (condition->first == DEDAKHUMI_CONDITION_NEXUS_LOSS)
+		text_add(text, " of %u", condition->nexus);
 }
 
-static void add_function(struct text *text, const uint8_t *bytes, unsigned tag)
+static void add_function(struct text *text, const struct event_fields *function)
 {
-	text_add(text, "%u asks %s", bytes[3], function_name(bytes[4]));
-	if (bytes[4] == DEDAKHUMI_FUNCTION_ABORT_TASK)
-		text_add(text, " %u.%u", bytes[3], tag);
+	text_add(text, "%u asks %s", function->nexus, function_name(function->first));
+	if (function->first == DEDAKHUMI_FUNCTION_ABORT_TASK)
+		text_add(text, " %u.%u", function->nexus, function->tag);
 }
 
 void add_event(struct text *text, const struct event *event)
 {
-	const uint8_t *bytes = event->bytes;
-	unsigned tag = (unsigned)bytes[6] << 8 | bytes[7];
-	switch (bytes[2]) {
+	struct event_fields fields = fields_of(event);
+	switch (fields.kind) {
 	case DEDAKHUMI_KIND_COMMAND:
-		add_command(text, bytes, tag);
+		add_command(text, &fields);
 		break;
 	case DEDAKHUMI_KIND_COMPLETION:
-		text_add(text, "%u.%u ends %s", bytes[3], tag, status_name(bytes[4]));
+		text_add(text, "%u.%u ends %s", fields.nexus, fields.tag, status_name(fields.first));
 		break;
 	case DEDAKHUMI_KIND_MANAGEMENT:
-		add_function(text, bytes, tag);
+		add_function(text, &fields);
 		break;
 	case DEDAKHUMI_KIND_CONDITION:
-		add_condition(text, bytes);
+		add_condition(text, &fields);
 		break;
 	default:
-		text_add(text, "kind %u", bytes[2]);
+		text_add(text, "kind %u", fields.kind);
 	}
 }

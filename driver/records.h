@@ -4,14 +4,20 @@
 
 #include "port.h"
 
+/* Where the fields that are read stand in their records. */
+enum { HEADER_COUNT = 4, HEADER_ACA = 5, HEADER_RUN = 6 };
+enum { NEXUS_PENDING = 3 };
+enum { TASK_NEXUS = 2, TASK_ATTRIBUTE = 3, TASK_STATE = 4, TASK_CONTROL = 5, TASK_TAG = 6 };
+enum { ENDED_NEXUS = 2, ENDED_STATUS = 3, ENDED_TAG = 6 };
+
 struct task {
 	uint8_t nexus, attribute, state, control;
-	uint16_t tag;
+	tag_number tag;
 };
 
 struct ended {
 	uint8_t nexus, status;
-	uint16_t tag;
+	tag_number tag;
 };
 
 unsigned task_count(const struct port *port);

@@ -3,14 +3,14 @@
 /* The disk has ended a task that waits: the completion is given again once the task is enabled (turns.c). */
 static void hold_completion(struct box *box, const struct event *event)
 {
-	const uint8_t *bytes = event->bytes;
-	struct kept_request *kept = find_request(&box->kept, bytes[3], (uint16_t)(bytes[6] << 8 | bytes[7]));
+	struct event_fields completion = fields_of(event);
+	struct kept_request *kept = find_request(&box->kept, completion.nexus, completion.tag);
 	if (kept == NULL) {
 		box->faults++;
 		return;
 	}
 	kept->finished = true;
-	kept->status = bytes[4];
+	kept->status = completion.first;
 	trace_note("the task waits; its completion is held back until it is enabled");
 }
 

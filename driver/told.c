@@ -15,8 +15,8 @@ static void add_ends(struct text *text, const struct port *port, unsigned ended)
 
 static void add_entry_status(struct text *text, const struct event *event, const struct dedakhumi_answer *answer)
 {
-	unsigned tag = (unsigned)event->bytes[6] << 8 | event->bytes[7];
-	text_add(text, "%u.%u %s", event->bytes[3], tag, status_name(answer->status));
+	struct event_fields command = fields_of(event);
+	text_add(text, "%u.%u %s", command.nexus, command.tag, status_name(answer->status));
 	if (answer->status == DEDAKHUMI_STATUS_CHECK_CONDITION)
 		text_add(text, " %Xh/%02Xh/%02Xh", answer->key, answer->code, answer->qualifier);
 	text_add(text, "; ");
@@ -25,7 +25,7 @@ static void add_entry_status(struct text *text, const struct event *event, const
 static void add_function_word(struct text *text, const struct event *event, const struct dedakhumi_answer *answer)
 {
 	const char *word = answer->answer == DEDAKHUMI_DONE ? "COMPLETE" : "REJECTED";
-	text_add(text, "%u FUNCTION %s; ", event->bytes[3], word);
+	text_add(text, "%u FUNCTION %s; ", fields_of(event).nexus, word);
 }
 
 static void add_attention(struct text *text, const uint8_t *pending_before, const struct port *port, uint8_t bit)
@@ -45,7 +45,7 @@ void add_told(struct text *text, const uint8_t *pending_before, const struct por
 		add_entry_status(text, event, answer);
 	add_ends(text, port, answer->ended);
 	bool heard = answer->answer == DEDAKHUMI_DONE || answer->answer == DEDAKHUMI_REJECTED;
-	if (heard && event->bytes[2] == DEDAKHUMI_KIND_MANAGEMENT)
+	if (heard && fields_of(event).kind == DEDAKHUMI_KIND_MANAGEMENT)
 		add_function_word(text, event, answer);
 	for (unsigned bit = DEDAKHUMI_PENDING_POWER_ON; bit <= DEDAKHUMI_PENDING_COMMANDS_CLEARED; bit <<= 1)
 		add_attention(text, pending_before, port, (uint8_t)bit);

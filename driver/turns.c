@@ -12,13 +12,13 @@ static void carry_out(struct box *box, const struct request *request, struct tex
 		box->faults++;
 }
 
-static void complete(struct box *box, uint8_t nexus, uint16_t tag, uint8_t status, const char *detail)
+static void complete(struct box *box, uint8_t nexus, tag_number tag, uint8_t status, const char *detail)
 {
 	struct event event = completion_event(nexus, tag, status);
 	box_apply(box, &event, detail);
 }
 
-void box_disk_ends(struct box *box, uint8_t nexus, uint16_t tag, uint8_t status)
+void box_disk_ends(struct box *box, uint8_t nexus, tag_number tag, uint8_t status)
 {
 	struct text detail = {.used = 0};
 	const struct kept_request *kept = find_request(&box->kept, nexus, tag);

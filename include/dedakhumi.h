@@ -30,11 +30,15 @@ extern "C" {
 
 /* Lengths in bytes, and numbers of records (the paper, "Bytes"). */
 #define DEDAKHUMI_RECORD_LENGTH 8
+#define DEDAKHUMI_HEADER_LENGTH 8
+#define DEDAKHUMI_NEXUS_LENGTH 8
+#define DEDAKHUMI_TASK_LENGTH 8
+#define DEDAKHUMI_ENDED_LENGTH 8
+#define DEDAKHUMI_EVENT_LENGTH 8
 #define DEDAKHUMI_NEXUSES 8
 #define DEDAKHUMI_TASKS 64
 #define DEDAKHUMI_TABLE_LENGTH 584
 #define DEDAKHUMI_REPORT_LENGTH 512
-#define DEDAKHUMI_EVENT_LENGTH 8
 
 /* Where the records of a table stand: the header, eight nexus records in order 0 to 7, 64 task records. */
 #define DEDAKHUMI_HEADER_OFFSET 0

@@ -15,11 +15,13 @@ static bool good_header(const uint8_t *table)
 
 static bool good_nexus_records(const uint8_t *table)
 {
+	static const uint8_t zeros[NEXUS_LENGTH - NEXUS_REST];
+
 	for (size_t nexus = 0; nexus < NEXUS_COUNT; nexus++) {
 		const uint8_t *record = table + nexus_offset(nexus);
 
 		if (!has_mark(record, NEXUS_MARK) || record[NEXUS_NUMBER] != nexus || record[NEXUS_PENDING] > PENDING_ALL ||
-			memcmp(record + NEXUS_REST, "\0\0\0\0", 4) != 0)
+			memcmp(record + NEXUS_REST, zeros, sizeof zeros) != 0)
 			return false;
 	}
 	return true;
@@ -60,7 +62,7 @@ static bool good_task(const uint8_t *table, size_t place, bool barrier)
 	return good_state_with_aca(table, task, place, barrier);
 }
 
-static bool named_before(const uint32_t *names, size_t place)
+static bool named_before(const uint64_t *names, size_t place)
 {
 	for (size_t older = 0; older < place; older++)
 		if (names[older] == names[place])
@@ -71,7 +73,7 @@ static bool named_before(const uint32_t *names, size_t place)
 static bool good_used_records(const uint8_t *table)
 {
 	size_t count = table[HEADER_COUNT];
-	uint32_t names[TASK_LIMIT];
+	uint64_t names[TASK_LIMIT];
 	bool barrier = false;
 
 	for (size_t place = 0; place < count; place++) {
@@ -79,7 +81,7 @@ static bool good_used_records(const uint8_t *table)
 
 		if (!good_task(table, place, barrier))
 			return false;
-		names[place] = (uint32_t)task[TASK_NEXUS] << 16 | read_tag(task + TASK_TAG);
+		names[place] = (uint64_t)task[TASK_NEXUS] << 8 * TAG_LENGTH | read_tag(task + TASK_TAG);
 		if (named_before(names, place))
 			return false;
 		barrier = barrier || is_barrier(task[TASK_ATTRIBUTE]);
@@ -90,7 +92,7 @@ static bool good_used_records(const uint8_t *table)
 static bool good_unused_records(const uint8_t *table)
 {
 	for (size_t place = table[HEADER_COUNT]; place < TASK_LIMIT; place++)
-		if (memcmp(table + task_offset(place), UNUSED_TASK, RECORD_LENGTH) != 0)
+		if (!is_unused(table + task_offset(place)))
 			return false;
 	return true;
 }

@@ -3,7 +3,7 @@
 
 static struct dedakhumi_answer entry_status(uint8_t *report, uint8_t status)
 {
-	memset(report, 0, DEDAKHUMI_REPORT_LENGTH);
+	memset(report, 0, REPORT_LENGTH);
 	return (struct dedakhumi_answer){ .answer = ANSWER_ENDED_AT_ENTRY, .status = status };
 }
 
@@ -77,10 +77,10 @@ static struct dedakhumi_answer accept(uint8_t *table, uint8_t *report, const uin
 	task[TASK_ATTRIBUTE] = event[EVENT_FIRST];
 	task[TASK_STATE] = ENABLED;
 	task[TASK_CONTROL] = event[EVENT_SECOND] & CONTROL_NACA;
-	memcpy(task + TASK_TAG, event + EVENT_TAG, 2);
+	memcpy(task + TASK_TAG, event + EVENT_TAG, TAG_LENGTH);
 	table[HEADER_COUNT]++;
 	second_enable_eligible(table);
-	memset(report, 0, DEDAKHUMI_REPORT_LENGTH);
+	memset(report, 0, REPORT_LENGTH);
 	return done(0);
 }
 

@@ -26,15 +26,14 @@ static void write_ended(uint8_t *record, const uint8_t *task, uint8_t status)
 	memcpy(record, ENDED_MARK, MARK_LENGTH);
 	record[ENDED_NEXUS] = task[TASK_NEXUS];
 	record[ENDED_STATUS] = status;
-	record[ENDED_STATUS + 1] = 0;
-	record[ENDED_STATUS + 2] = 0;
-	memcpy(record + ENDED_TAG, task + TASK_TAG, 2);
+	memset(record + ENDED_REST, 0, ENDED_TAG - ENDED_REST);
+	memcpy(record + ENDED_TAG, task + TASK_TAG, TAG_LENGTH);
 }
 
 static void free_records(uint8_t *table, size_t kept)
 {
 	for (size_t place = kept; place < table[HEADER_COUNT]; place++)
-		memcpy(table + task_offset(place), UNUSED_TASK, RECORD_LENGTH);
+		write_unused(table + task_offset(place));
 	table[HEADER_COUNT] = (uint8_t)kept;
 }
 
@@ -47,15 +46,15 @@ uint8_t second_end_tasks(uint8_t *table, uint8_t *report, const struct ending *e
 		const uint8_t *task = table + task_offset(place);
 
 		if (ends(ending, task, place)) {
-			write_ended(report + ended * RECORD_LENGTH, task, ending_status(table, ending, task, place));
+			write_ended(report + ended * ENDED_LENGTH, task, ending_status(table, ending, task, place));
 			ended++;
 		} else {
-			memmove(table + task_offset(kept), task, RECORD_LENGTH);
+			memmove(table + task_offset(kept), task, TASK_LENGTH);
 			kept++;
 		}
 	}
 	free_records(table, kept);
-	memset(report + ended * RECORD_LENGTH, 0, DEDAKHUMI_REPORT_LENGTH - ended * RECORD_LENGTH);
+	memset(report + ended * ENDED_LENGTH, 0, REPORT_LENGTH - ended * ENDED_LENGTH);
 	return (uint8_t)ended;
 }
 

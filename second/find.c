@@ -6,7 +6,7 @@ size_t second_find(const uint8_t *table, const uint8_t *event)
 	for (size_t place = 0; place < table[HEADER_COUNT]; place++) {
 		const uint8_t *task = table + task_offset(place);
 
-		if (task[TASK_NEXUS] == event[EVENT_NEXUS] && memcmp(task + TASK_TAG, event + EVENT_TAG, 2) == 0)
+		if (task[TASK_NEXUS] == event[EVENT_NEXUS] && memcmp(task + TASK_TAG, event + EVENT_TAG, TAG_LENGTH) == 0)
 			return place;
 	}
 	return NO_TASK;

@@ -7,28 +7,35 @@
 #include <stdint.h>
 #include <string.h>
 
-enum {
-	RECORD_LENGTH = 8,
-	MARK_LENGTH = 2,
-	NEXUS_COUNT = 8,
-	TASK_LIMIT = 64,
-	RUN_LIMIT = 4,
-	NEXUS_RECORDS = RECORD_LENGTH,
-	TASK_RECORDS = NEXUS_RECORDS + NEXUS_COUNT * RECORD_LENGTH
-};
+enum { NEXUS_COUNT = 8, TASK_LIMIT = 64, RUN_LIMIT = 4 };
+
+/* How wide a tag is stands here and nowhere else: its type, and its bytes where a record is listed (big-endian). */
+typedef uint16_t tag_number;
+#define TAG_BYTES(tag) (uint8_t)((tag) >> 8), (uint8_t)(tag)
+
+enum { MARK_LENGTH = 2, TAG_LENGTH = sizeof(tag_number) };
+/* How many tags there are. */
+#define TAG_COUNT ((uint64_t)1 << 8 * TAG_LENGTH)
 
 #define HEADER_MARK "\x54\x48"
 #define NEXUS_MARK "\x54\x4E"
 #define TASK_MARK "\x54\x54"
 #define ENDED_MARK "\x54\x45"
 #define EVENT_MARK "\x54\x56"
-#define UNUSED_TASK "\x54\x54\0\0\0\0\0"
 
-enum { HEADER_FORM = 2, HEADER_POLICY, HEADER_COUNT, HEADER_ACA, HEADER_RUN, HEADER_LAST };
-enum { NEXUS_NUMBER = 2, NEXUS_PENDING, NEXUS_REST };
-enum { TASK_NEXUS = 2, TASK_ATTRIBUTE, TASK_STATE, TASK_CONTROL, TASK_TAG };
-enum { ENDED_NEXUS = 2, ENDED_STATUS, ENDED_TAG = 6 };
-enum { EVENT_KIND = 2, EVENT_NEXUS, EVENT_FIRST, EVENT_SECOND, EVENT_TAG };
+/* Where each field stands in its record. REST is bytes that are 0. */
+enum { HEADER_FORM = 2, HEADER_POLICY, HEADER_COUNT, HEADER_ACA, HEADER_RUN, HEADER_LAST, HEADER_LENGTH };
+enum { NEXUS_NUMBER = 2, NEXUS_PENDING, NEXUS_REST, NEXUS_LENGTH = 8 };
+enum { TASK_NEXUS = 2, TASK_ATTRIBUTE, TASK_STATE, TASK_CONTROL, TASK_TAG, TASK_LENGTH = TASK_TAG + TAG_LENGTH };
+enum { ENDED_NEXUS = 2, ENDED_STATUS, ENDED_REST, ENDED_TAG = 6, ENDED_LENGTH = ENDED_TAG + TAG_LENGTH };
+enum { EVENT_KIND = 2, EVENT_NEXUS, EVENT_FIRST, EVENT_SECOND, EVENT_TAG, EVENT_LENGTH = EVENT_TAG + TAG_LENGTH };
+
+enum {
+	NEXUS_RECORDS = HEADER_LENGTH,
+	TASK_RECORDS = NEXUS_RECORDS + NEXUS_COUNT * NEXUS_LENGTH,
+	TABLE_LENGTH = TASK_RECORDS + TASK_LIMIT * TASK_LENGTH,
+	REPORT_LENGTH = TASK_LIMIT * ENDED_LENGTH
+};
 
 enum { POLICY_QERR = 0x03, POLICY_TAS = 0x04 };
 enum { QERR_NONE = 0, QERR_ALL = 1, QERR_BAD = 2, QERR_NEXUS = 3 };
@@ -77,19 +84,43 @@ static inline bool has_mark(const uint8_t *record, const char *mark)
 	return memcmp(record, mark, MARK_LENGTH) == 0;
 }
 
-static inline uint16_t read_tag(const uint8_t *bytes)
+static inline tag_number read_tag(const uint8_t *bytes)
 {
-	return (uint16_t)(bytes[0] << 8 | bytes[1]);
+	tag_number tag = 0;
+
+	for (size_t place = 0; place < TAG_LENGTH; place++)
+		tag = (tag_number)(tag << 8 | bytes[place]);
+	return tag;
+}
+
+static inline void write_tag(uint8_t *bytes, tag_number tag)
+{
+	const uint8_t tag_bytes[] = { TAG_BYTES(tag) };
+
+	_Static_assert(sizeof tag_bytes == TAG_LENGTH, "TAG_BYTES lists as many bytes as a tag has");
+	memcpy(bytes, tag_bytes, TAG_LENGTH);
 }
 
 static inline size_t nexus_offset(size_t nexus)
 {
-	return NEXUS_RECORDS + nexus * RECORD_LENGTH;
+	return NEXUS_RECORDS + nexus * NEXUS_LENGTH;
 }
 
 static inline size_t task_offset(size_t place)
 {
-	return TASK_RECORDS + place * RECORD_LENGTH;
+	return TASK_RECORDS + place * TASK_LENGTH;
+}
+
+static const uint8_t unused_task[TASK_LENGTH] = { 0x54, 0x54 };
+
+static inline bool is_unused(const uint8_t *task)
+{
+	return memcmp(task, unused_task, TASK_LENGTH) == 0;
+}
+
+static inline void write_unused(uint8_t *task)
+{
+	memcpy(task, unused_task, TASK_LENGTH);
 }
 
 #endif

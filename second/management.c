@@ -11,7 +11,7 @@ static struct dedakhumi_answer abort_tasks(uint8_t *table, uint8_t *report, stru
 
 static struct dedakhumi_answer reject(uint8_t *report)
 {
-	memset(report, 0, DEDAKHUMI_REPORT_LENGTH);
+	memset(report, 0, REPORT_LENGTH);
 	return plain_answer(ANSWER_REJECTED);
 }
 

@@ -20,9 +20,9 @@ struct ending {
 	bool tells_others;
 };
 
-/* Takes any 584 bytes. */
+/* Takes any TABLE_LENGTH bytes. */
 bool second_well_formed(const uint8_t *table);
-/* Takes any 8 bytes; the nexus may still be above 7. */
+/* Takes any EVENT_LENGTH bytes; the nexus may still be above 7. */
 bool second_good_event(const uint8_t *event);
 bool second_good_policy(uint8_t policy);
 

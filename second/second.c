@@ -1,6 +1,10 @@
 /* The three operations: what is looked at first, and who decides then. */
 #include "parts.h"
 
+_Static_assert(TABLE_LENGTH == DEDAKHUMI_TABLE_LENGTH && REPORT_LENGTH == DEDAKHUMI_REPORT_LENGTH && EVENT_LENGTH == DEDAKHUMI_EVENT_LENGTH,
+	"layout.h and dedakhumi.h have the same lengths");
+_Static_assert(sizeof(tag_number) == sizeof((struct dedakhumi_turn){ 0 }.tag), "a tag is as wide as it is named");
+
 static void write_nexus_records(uint8_t *table)
 {
 	for (size_t nexus = 0; nexus < NEXUS_COUNT; nexus++) {
@@ -15,28 +19,28 @@ static void write_nexus_records(uint8_t *table)
 /* "A fresh table equals the state after power on." */
 uint8_t second_start(uint8_t *table, size_t table_len, uint8_t policy)
 {
-	if (table_len != DEDAKHUMI_TABLE_LENGTH)
+	if (table_len != TABLE_LENGTH)
 		return ANSWER_BAD_TABLE;
 	if (!second_good_policy(policy))
 		return ANSWER_BAD_POLICY;
-	memset(table, 0, DEDAKHUMI_TABLE_LENGTH);
+	memset(table, 0, TABLE_LENGTH);
 	memcpy(table, HEADER_MARK, MARK_LENGTH);
 	table[HEADER_FORM] = 1;
 	table[HEADER_POLICY] = policy;
 	write_nexus_records(table);
 	for (size_t place = 0; place < TASK_LIMIT; place++)
-		memcpy(table + task_offset(place), UNUSED_TASK, RECORD_LENGTH);
+		write_unused(table + task_offset(place));
 	return ANSWER_DONE;
 }
 
 /* Answers 1 to 4, the lowest that applies; 0 if none does. */
 static uint8_t refusal(const uint8_t *table, size_t table_len, size_t report_len, const uint8_t *event, size_t event_len)
 {
-	if (table_len != DEDAKHUMI_TABLE_LENGTH || !second_well_formed(table))
+	if (table_len != TABLE_LENGTH || !second_well_formed(table))
 		return ANSWER_BAD_TABLE;
-	if (report_len != DEDAKHUMI_REPORT_LENGTH)
+	if (report_len != REPORT_LENGTH)
 		return ANSWER_BAD_REPORT_LENGTH;
-	if (event_len != DEDAKHUMI_EVENT_LENGTH || !second_good_event(event))
+	if (event_len != EVENT_LENGTH || !second_good_event(event))
 		return ANSWER_BAD_EVENT;
 	if (event[EVENT_NEXUS] >= NEXUS_COUNT)
 		return ANSWER_BAD_NEXUS;
@@ -67,7 +71,7 @@ struct dedakhumi_turn second_name(const uint8_t *table, size_t table_len)
 	struct dedakhumi_turn turn = { .answer = ANSWER_DONE };
 	size_t place;
 
-	if (table_len != DEDAKHUMI_TABLE_LENGTH || !second_well_formed(table)) {
+	if (table_len != TABLE_LENGTH || !second_well_formed(table)) {
 		turn.answer = ANSWER_BAD_TABLE;
 		return turn;
 	}

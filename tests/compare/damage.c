@@ -41,7 +41,7 @@ static void reach_table(struct session *session, uint8_t *table)
 		stream->next(&session->random, run_table(&session->run, trial), step);
 		session_apply(session);
 	}
-	memcpy(table, run_table(&session->run, trial), DEDAKHUMI_TABLE_LENGTH);
+	memcpy(table, run_table(&session->run, trial), TABLE_LENGTH);
 }
 
 static void base_table(struct session *session, uint8_t *table)
@@ -58,7 +58,7 @@ static void compare_table(struct session *session, const uint8_t *table)
 	struct trial *trial = session_new_trial(session);
 	const struct stream *stream = &streams[1 + random_below(&session->random, STREAM_COUNT - 1)];
 
-	memcpy(trial->table, table, DEDAKHUMI_TABLE_LENGTH);
+	memcpy(trial->table, table, TABLE_LENGTH);
 	trial->starts = random_percent(&session->random, 3);
 	trial->policy = (uint8_t)random_below(&session->random, 9);
 	session_open(session);
@@ -68,7 +68,7 @@ static void compare_table(struct session *session, const uint8_t *table)
 
 static void damage_byte(struct session *session, const uint8_t *base, size_t byte)
 {
-	uint8_t table[DEDAKHUMI_TABLE_LENGTH];
+	uint8_t table[TABLE_LENGTH];
 
 	memcpy(table, base, sizeof table);
 	for (unsigned way = 0; way < WAYS; way++) {
@@ -80,7 +80,7 @@ static void damage_byte(struct session *session, const uint8_t *base, size_t byt
 
 static void damage_every_byte(struct session *session)
 {
-	uint8_t base[DEDAKHUMI_TABLE_LENGTH];
+	uint8_t base[TABLE_LENGTH];
 
 	base_table(session, base);
 	for (size_t byte = 0; byte < sizeof base; byte++)
@@ -90,30 +90,43 @@ static void damage_every_byte(struct session *session)
 /* Every value of every byte of the header, under which the tasks are good or not. */
 static void damage_header(struct session *session)
 {
-	uint8_t base[DEDAKHUMI_TABLE_LENGTH], table[DEDAKHUMI_TABLE_LENGTH];
+	uint8_t base[TABLE_LENGTH], table[TABLE_LENGTH];
 
 	base_table(session, base);
-	for (unsigned change = 0; change < RECORD_LENGTH * 256; change++) {
+	for (unsigned change = 0; change < HEADER_LENGTH * 256; change++) {
 		memcpy(table, base, sizeof table);
 		table[change / 256] = (uint8_t)change;
 		compare_table(session, table);
 	}
 }
 
-static size_t random_record(uint64_t *random)
+static unsigned random_record(uint64_t *random)
 {
-	return RECORD_LENGTH * random_below(random, DEDAKHUMI_TABLE_LENGTH / RECORD_LENGTH);
+	return random_below(random, TABLE_RECORDS);
 }
 
+/* Of two records of different lengths, the shorter one's bytes. */
 static void swap_records(uint64_t *random, uint8_t *table)
 {
-	uint8_t kept[RECORD_LENGTH];
-	size_t one = random_record(random);
-	size_t other = random_percent(random, 50) ? random_record(random) : (one + RECORD_LENGTH) % DEDAKHUMI_TABLE_LENGTH;
+	unsigned number = random_record(random);
+	struct record one = table_record(number);
+	struct record other = table_record(random_percent(random, 50) ? random_record(random) : (number + 1) % TABLE_RECORDS);
+	size_t length = one.length < other.length ? one.length : other.length;
 
-	memcpy(kept, table + one, RECORD_LENGTH);
-	memmove(table + one, table + other, RECORD_LENGTH);
-	memcpy(table + other, kept, RECORD_LENGTH);
+	for (size_t byte = 0; byte < length; byte++) {
+		uint8_t kept = table[one.offset + byte];
+
+		table[one.offset + byte] = table[other.offset + byte];
+		table[other.offset + byte] = kept;
+	}
+}
+
+static void clear_record(uint64_t *random, uint8_t *table)
+{
+	struct record record = table_record(random_record(random));
+
+	memset(table + record.offset, 0, record.length);
+	memcpy(table + record.offset, TASK_MARK, MARK_LENGTH);
 }
 
 /* A second task of the same nexus and tag, in the place of another or as the youngest. */
@@ -125,10 +138,10 @@ static void duplicate_task(uint64_t *random, uint8_t *table)
 	if (count == 0)
 		return;
 	if (count == TASK_LIMIT || random_percent(random, 50))
-		place = random_below(random, (unsigned)count);
+		place = random_below(random, count);
 	else
 		table[HEADER_COUNT]++;
-	memcpy(table + task_offset(place), table + task_offset(random_below(random, (unsigned)count)), RECORD_LENGTH);
+	memcpy(table + task_offset(place), table + task_offset(random_below(random, count)), TASK_LENGTH);
 	if (table[HEADER_ACA] == 0)
 		table_enable_eligible(table);
 }
@@ -145,7 +158,7 @@ static void duplicate_name(uint64_t *random, uint8_t *table)
 	one = table + task_offset(random_below(random, count));
 	other = table + task_offset(random_below(random, count));
 	other[TASK_NEXUS] = one[TASK_NEXUS];
-	memmove(other + TASK_TAG, one + TASK_TAG, 2);
+	memmove(other + TASK_TAG, one + TASK_TAG, TAG_LENGTH);
 }
 
 static void damage_records(uint64_t *random, uint8_t *table)
@@ -167,13 +180,13 @@ static void damage_records(uint64_t *random, uint8_t *table)
 		table[HEADER_ACA] = (uint8_t)random_below(random, NEXUS_COUNT + 2);
 		break;
 	default:
-		memcpy(table + random_record(random), UNUSED_TASK, RECORD_LENGTH);
+		clear_record(random, table);
 	}
 }
 
 static void damage_some_records(struct session *session)
 {
-	uint8_t table[DEDAKHUMI_TABLE_LENGTH];
+	uint8_t table[TABLE_LENGTH];
 
 	table_random(&session->random, table);
 	damage_records(&session->random, table);
@@ -183,12 +196,12 @@ static void damage_some_records(struct session *session)
 /* One byte of the header or of a used task, where damage is not always fatal. */
 static void damage_one_byte(struct session *session)
 {
-	uint8_t table[DEDAKHUMI_TABLE_LENGTH];
+	uint8_t table[TABLE_LENGTH];
 	size_t byte = random_below(&session->random, TASK_RECORDS);
 
 	table_random(&session->random, table);
 	if (table[HEADER_COUNT] > 0 && random_percent(&session->random, 75))
-		byte = task_offset(random_below(&session->random, table[HEADER_COUNT])) + random_below(&session->random, RECORD_LENGTH);
+		byte = task_offset(random_below(&session->random, table[HEADER_COUNT])) + random_below(&session->random, TASK_LENGTH);
 	table[byte] = damaged_byte(&session->random, table[byte], random_below(&session->random, WAYS));
 	compare_table(session, table);
 }

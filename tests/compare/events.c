@@ -1,11 +1,9 @@
 #include "events.h"
 #include "random.h"
 
-void event_write(struct step *step, uint8_t kind, uint8_t nexus, uint8_t first, uint8_t second, uint16_t tag)
+void event_write(struct step *step, uint8_t kind, uint8_t nexus, uint8_t first, uint8_t second, tag_number tag)
 {
-	const uint8_t event[DEDAKHUMI_EVENT_LENGTH] = {
-		0x54, 0x56, kind, nexus, first, second, (uint8_t)(tag >> 8), (uint8_t)tag
-	};
+	const uint8_t event[EVENT_LENGTH] = { 0x54, 0x56, kind, nexus, first, second, TAG_BYTES(tag) };
 
 	memcpy(step->event, event, sizeof event);
 }
@@ -20,9 +18,9 @@ static uint8_t random_nexus(uint64_t *random, struct range range)
 	return (uint8_t)random_below(random, range.nexuses);
 }
 
-static uint16_t random_tag(uint64_t *random, struct range range)
+static tag_number random_tag(uint64_t *random, struct range range)
 {
-	return (uint16_t)random_below(random, range.tags);
+	return (tag_number)random_below(random, range.tags);
 }
 
 void event_command(uint64_t *random, struct step *step, struct range range, uint8_t attribute, unsigned exempt_percent)
@@ -37,18 +35,17 @@ void event_command(uint64_t *random, struct step *step, struct range range, uint
 static void aim_at_task(uint64_t *random, const uint8_t *table, struct step *step, struct range range)
 {
 	uint8_t *event = step->event;
-	uint16_t tag = random_tag(random, range);
+	tag_number tag = random_tag(random, range);
 	const uint8_t *task;
 
 	event[EVENT_NEXUS] = random_nexus(random, range);
-	event[EVENT_TAG] = (uint8_t)(tag >> 8);
-	event[EVENT_TAG + 1] = (uint8_t)tag;
+	write_tag(event + EVENT_TAG, tag);
 	/* A damaged table may have any count. */
 	if (table[HEADER_COUNT] == 0 || table[HEADER_COUNT] > TASK_LIMIT || random_percent(random, 10))
 		return;
 	task = table + task_offset(random_below(random, table[HEADER_COUNT]));
 	event[EVENT_NEXUS] = task[TASK_NEXUS];
-	memcpy(event + EVENT_TAG, task + TASK_TAG, 2);
+	memcpy(event + EVENT_TAG, task + TASK_TAG, TAG_LENGTH);
 }
 
 void event_completion(uint64_t *random, const uint8_t *table, struct step *step, struct range range, uint8_t status)

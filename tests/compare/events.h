@@ -7,10 +7,10 @@
 /* Which nexuses and tags an event may have: those below the two numbers. */
 struct range {
 	unsigned nexuses;
-	unsigned tags;
+	uint64_t tags;
 };
 
-void event_write(struct step *step, uint8_t kind, uint8_t nexus, uint8_t first, uint8_t second, uint16_t tag);
+void event_write(struct step *step, uint8_t kind, uint8_t nexus, uint8_t first, uint8_t second, tag_number tag);
 void event_command(uint64_t *random, struct step *step, struct range range, uint8_t attribute, unsigned exempt_percent);
 /* Of a task in the table as a rule, else of any in the range. */
 void event_completion(uint64_t *random, const uint8_t *table, struct step *step, struct range range, uint8_t status);

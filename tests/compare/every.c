@@ -5,21 +5,28 @@
 #include "tables.h"
 
 static const uint8_t seconds[] = { 0, 1, 2, 3, 4, 5, 8, 16, 32, 64, 128, 129, 254, 255 };
-static const uint8_t nexuses[] = { 0, 1, 7, 8, 128, 255 };
-static const uint16_t tags[] = { 0, 1, 0x0100, 0xFFFF };
+static const uint8_t nexuses[] = { 0, 1, NEXUS_COUNT - 1, NEXUS_COUNT, 128, 255 };
 
 enum {
 	SECONDS = sizeof seconds / sizeof *seconds,
 	NEXUSES = sizeof nexuses / sizeof *nexuses,
-	TAGS = sizeof tags / sizeof *tags,
+	TAGS = TAG_LENGTH + 2,
 	KINDS = 6
 };
 
+/* 0, a bit in each byte alone, the highest. */
+static tag_number tag_at(unsigned number)
+{
+	if (number == 0)
+		return 0;
+	return (tag_number)(number <= TAG_LENGTH ? (uint64_t)1 << 8 * (number - 1) : TAG_COUNT - 1);
+}
+
 static void apply_every_tag(struct session *session, uint8_t kind, uint8_t nexus, uint8_t first, uint8_t second)
 {
-	for (size_t tag = 0; tag < TAGS; tag++) {
+	for (unsigned tag = 0; tag < TAGS; tag++) {
 		session_reopen(session);
-		event_write(session_new_step(session), kind, nexus, first, second, tags[tag]);
+		event_write(session_new_step(session), kind, nexus, first, second, tag_at(tag));
 		session_apply(session);
 	}
 }

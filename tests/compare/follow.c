@@ -21,7 +21,7 @@ static void follow_fresh(struct session *session, const struct stream *stream, u
 {
 	struct trial *trial = session_new_trial(session);
 
-	random_bytes(&session->random, trial->table, DEDAKHUMI_TABLE_LENGTH);
+	random_bytes(&session->random, trial->table, TABLE_LENGTH);
 	trial->starts = true;
 	trial->policy = policy;
 	trial->well_formed = true;

@@ -4,9 +4,15 @@
 #include "session.h"
 #include "tables.h"
 
-/* 840 and 768 are the right lengths again in their low byte. */
-static const size_t table_lengths[] = { 0, 1, 7, 8, 72, 576, 583, 584, 585, 586, 591, 592, 840, 1000 };
-static const size_t report_lengths[] = { 0, 1, 8, 256, 504, 511, 512, 513, 520, 768, 1000 };
+/* The lengths that are 256 off are the right ones again in their low byte. */
+static const size_t table_lengths[] = {
+	0, 1, HEADER_LENGTH - 1, HEADER_LENGTH, TASK_RECORDS, TABLE_LENGTH - TASK_LENGTH, TABLE_LENGTH - 1, TABLE_LENGTH, TABLE_LENGTH + 1,
+	TABLE_LENGTH + 2, TABLE_LENGTH + TASK_LENGTH - 1, TABLE_LENGTH + TASK_LENGTH, TABLE_LENGTH + 256, 1000
+};
+static const size_t report_lengths[] = {
+	0, 1, ENDED_LENGTH, REPORT_LENGTH - 256, REPORT_LENGTH - ENDED_LENGTH, REPORT_LENGTH - 1, REPORT_LENGTH, REPORT_LENGTH + 1,
+	REPORT_LENGTH + ENDED_LENGTH, REPORT_LENGTH + 256, 1000
+};
 
 enum {
 	TABLE_LENGTHS = sizeof table_lengths / sizeof *table_lengths,
@@ -18,8 +24,8 @@ enum {
 /* What lies past a whole table looks like more of it. */
 static void lend_any_length(struct session *session, struct trial *trial, size_t length)
 {
-	for (size_t offset = DEDAKHUMI_TABLE_LENGTH; offset < ROOM_LENGTH; offset += RECORD_LENGTH)
-		memcpy(trial->table + offset, UNUSED_TASK, RECORD_LENGTH);
+	for (size_t place = TASK_LIMIT; task_offset(place + 1) <= ROOM_LENGTH; place++)
+		write_unused(trial->table + task_offset(place));
 	table_random(&session->random, trial->table);
 	trial->table_length = length;
 }
@@ -59,7 +65,7 @@ static void apply_every_length(struct session *session)
 
 		event_any(&session->random, session->trial.table, step, range);
 		if (random_percent(&session->random, 25))
-			step->event[random_below(&session->random, DEDAKHUMI_EVENT_LENGTH)] ^= 0x10;
+			step->event[random_below(&session->random, EVENT_LENGTH)] ^= 0x10;
 		step->event_length = (uint8_t)length;
 		session_apply(session);
 	}
@@ -72,7 +78,7 @@ static void lend_every_report_length(struct session *session, size_t table_lengt
 
 		lend_any_length(session, trial, table_length);
 		if (random_percent(&session->random, 10))
-			trial->table[random_below(&session->random, DEDAKHUMI_TABLE_LENGTH)] ^= 0x20;
+			trial->table[random_below(&session->random, TABLE_LENGTH)] ^= 0x20;
 		trial->report_length = report_lengths[number];
 		session_open(session);
 		apply_every_length(session);

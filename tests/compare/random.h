@@ -15,7 +15,8 @@ static inline uint64_t random_next(uint64_t *random)
 	return mixed ^ mixed >> 31;
 }
 
-static inline unsigned random_below(uint64_t *random, unsigned limit)
+/* The limit is at most 2 to the power of 32. */
+static inline unsigned random_below(uint64_t *random, uint64_t limit)
 {
 	return (unsigned)((random_next(random) >> 32) * limit >> 32);
 }

@@ -36,14 +36,20 @@ static bool part(struct run *run, const char *place, long byte, unsigned archive
 	return false;
 }
 
+static bool part_in(struct run *run, enum buffer buffer, const char *place, long byte, unsigned archive, unsigned second)
+{
+	run->difference.buffer = buffer;
+	return part(run, place, byte, archive, second);
+}
+
 /* Bytes are counted from the first lent one; those before it are negative. */
-static bool same_room(struct run *run, const char *place, const uint8_t *archive, const uint8_t *second, size_t first)
+static bool same_room(struct run *run, enum buffer buffer, const char *place, const uint8_t *archive, const uint8_t *second, size_t first)
 {
 	if (memcmp(archive, second, ROOM_LENGTH) == 0)
 		return true;
 	for (size_t byte = 0; byte < ROOM_LENGTH; byte++)
 		if (archive[byte] != second[byte])
-			return part(run, place, (long)byte - (long)first, archive[byte], second[byte]);
+			return part_in(run, buffer, place, (long)byte - (long)first, archive[byte], second[byte]);
 	return true;
 }
 
@@ -78,6 +84,7 @@ static bool same_turn(struct run *run)
 
 /* A stretch of a room before and after; first is where the lent bytes begin. */
 struct stretch {
+	enum buffer buffer;
 	const uint8_t *before;
 	const uint8_t *after;
 	size_t first;
@@ -89,7 +96,8 @@ static bool left_alone(struct run *run, const char *place, struct stretch stretc
 {
 	for (size_t byte = from; byte < to; byte++)
 		if (stretch.before[byte] != stretch.after[byte])
-			return part(run, place, (long)byte - (long)stretch.first, stretch.before[byte], stretch.after[byte]);
+			return part_in(run, stretch.buffer, place, (long)byte - (long)stretch.first, stretch.before[byte],
+				stretch.after[byte]);
 	return true;
 }
 
@@ -112,7 +120,7 @@ static void name_turns(struct run *run, const struct trial *trial)
 
 static bool same_tables(struct run *run, const struct trial *trial)
 {
-	return same_room(run, "table byte", run->sides[ARCHIVE].table_room, run->sides[SECOND].table_room,
+	return same_room(run, TABLE_BUFFER, "table byte", run->sides[ARCHIVE].table_room, run->sides[SECOND].table_room,
 		ROOM_LENGTH - trial->shift - trial->table_length);
 }
 
@@ -130,7 +138,7 @@ static bool start_both(struct run *run, const struct trial *trial)
 {
 	uint8_t before[ROOM_LENGTH];
 	size_t first = ROOM_LENGTH - trial->shift - trial->table_length;
-	struct stretch table = { before, run->sides[ARCHIVE].table_room, first, trial->table_length };
+	struct stretch table = { TABLE_BUFFER, before, run->sides[ARCHIVE].table_room, first, trial->table_length };
 
 	memcpy(before, run->sides[ARCHIVE].table_room, ROOM_LENGTH);
 	for (int number = 0; number < SIDE_COUNT; number++) {
@@ -204,9 +212,9 @@ static void apply_both(struct run *run, const struct trial *trial, const struct 
 static bool same_results(struct run *run, const struct trial *trial, const struct step *step)
 {
 	return same_answer(run) && same_tables(run, trial) &&
-		same_room(run, "report byte", run->sides[ARCHIVE].report_room, run->sides[SECOND].report_room,
+		same_room(run, REPORT_BUFFER, "report byte", run->sides[ARCHIVE].report_room, run->sides[SECOND].report_room,
 			ROOM_LENGTH - trial->shift - trial->report_length) &&
-		same_room(run, "event byte", run->sides[ARCHIVE].event_room, run->sides[SECOND].event_room,
+		same_room(run, EVENT_BUFFER, "event byte", run->sides[ARCHIVE].event_room, run->sides[SECOND].event_room,
 			ROOM_LENGTH - step->event_length);
 }
 
@@ -229,10 +237,10 @@ bool run_step(struct run *run, const struct trial *trial, size_t number)
 	const struct step *step = &trial->steps[number];
 	uint8_t table[ROOM_LENGTH], report[ROOM_LENGTH];
 	struct stretch tables = {
-		table, run->sides[ARCHIVE].table_room, ROOM_LENGTH - trial->shift - trial->table_length, trial->table_length
+		TABLE_BUFFER, table, run->sides[ARCHIVE].table_room, ROOM_LENGTH - trial->shift - trial->table_length, trial->table_length
 	};
 	struct stretch reports = {
-		report, run->sides[ARCHIVE].report_room, ROOM_LENGTH - trial->shift - trial->report_length, trial->report_length
+		REPORT_BUFFER, report, run->sides[ARCHIVE].report_room, ROOM_LENGTH - trial->shift - trial->report_length, trial->report_length
 	};
 
 	run->difference.step = number;

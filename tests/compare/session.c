@@ -32,8 +32,8 @@ struct trial *session_new_trial(struct session *session)
 	struct trial *trial = &session->trial;
 
 	memset(trial, 0, offsetof(struct trial, steps));
-	trial->table_length = DEDAKHUMI_TABLE_LENGTH;
-	trial->report_length = DEDAKHUMI_REPORT_LENGTH;
+	trial->table_length = TABLE_LENGTH;
+	trial->report_length = REPORT_LENGTH;
 	if (random_percent(&session->random, 25))
 		trial->shift = random_below(&session->random, 16);
 	return trial;
@@ -44,7 +44,7 @@ struct step *session_new_step(struct session *session)
 	struct step *step = &session->trial.steps[session->trial.step_count++];
 
 	memset(step, 0, sizeof *step);
-	step->event_length = DEDAKHUMI_EVENT_LENGTH;
+	step->event_length = EVENT_LENGTH;
 	/* A third each: zeros, FFh, random bytes. */
 	step->fill = (uint8_t)random_below(&session->random, 3);
 	if (step->fill > FILL_ONES)
@@ -55,7 +55,7 @@ struct step *session_new_step(struct session *session)
 static void show_size(const struct trial *trial)
 {
 	printf("compare: shrunk to %zu events on ", trial->step_count);
-	if (trial->table_length != DEDAKHUMI_TABLE_LENGTH)
+	if (trial->table_length != TABLE_LENGTH)
 		printf("%zu lent bytes\n", trial->table_length);
 	else if (trial->starts)
 		printf("a fresh table\n");

@@ -22,7 +22,7 @@ void session_begin_part(struct session *session, const char *part);
 void session_part(struct session *session, const char *part, unsigned long times, void (*once)(struct session *session));
 /* An empty trial with buffers of the right lengths, for the caller to fill before it opens. */
 struct trial *session_new_trial(struct session *session);
-/* The next step of the trial, 8 zero bytes over a report with some filling, for the caller to fill before it applies. */
+/* The next step of the trial, an event of zero bytes over a report with some filling, for the caller to fill before it applies. */
 struct step *session_new_step(struct session *session);
 /* All three shrink and show the trial and leave the program with 1 if the sides differ. */
 void session_open(struct session *session);

@@ -116,7 +116,7 @@ static void open_fresh(struct run *run, struct trial *trial)
 	smaller = *trial;
 	smaller.starts = true;
 	smaller.policy = trial->table[HEADER_POLICY];
-	if (!trial->starts && trial->table_length == DEDAKHUMI_TABLE_LENGTH)
+	if (!trial->starts && trial->table_length == TABLE_LENGTH)
 		take_if_differs(run, trial, &smaller);
 }
 
@@ -127,8 +127,8 @@ static bool delete_task(struct run *run, struct trial *trial, size_t place)
 
 	smaller = *trial;
 	smaller.table[HEADER_COUNT]--;
-	memmove(task, task + RECORD_LENGTH, task_offset(TASK_LIMIT - 1) - task_offset(place));
-	memcpy(smaller.table + task_offset(TASK_LIMIT - 1), UNUSED_TASK, RECORD_LENGTH);
+	memmove(task, task + TASK_LENGTH, task_offset(TASK_LIMIT - 1) - task_offset(place));
+	write_unused(smaller.table + task_offset(TASK_LIMIT - 1));
 	if (take_if_differs(run, trial, &smaller))
 		return true;
 	if (smaller.table[HEADER_ACA] != 0)
@@ -142,7 +142,7 @@ static bool delete_tasks(struct run *run, struct trial *trial)
 {
 	bool shrunk = false;
 
-	if (trial->starts || trial->table_length != DEDAKHUMI_TABLE_LENGTH || trial->table[HEADER_COUNT] > TASK_LIMIT)
+	if (trial->starts || trial->table_length != TABLE_LENGTH || trial->table[HEADER_COUNT] > TASK_LIMIT)
 		return false;
 	for (size_t place = trial->table[HEADER_COUNT]; place-- > 0;)
 		shrunk |= delete_task(run, trial, place);
@@ -154,8 +154,8 @@ static bool restore_unused(struct run *run, struct trial *trial, size_t place)
 	static struct trial smaller;
 
 	smaller = *trial;
-	memcpy(smaller.table + task_offset(place), UNUSED_TASK, RECORD_LENGTH);
-	if (memcmp(smaller.table, trial->table, DEDAKHUMI_TABLE_LENGTH) == 0)
+	write_unused(smaller.table + task_offset(place));
+	if (memcmp(smaller.table, trial->table, TABLE_LENGTH) == 0)
 		return false;
 	return take_if_differs(run, trial, &smaller);
 }
@@ -173,9 +173,11 @@ static bool restore_all_unused(struct run *run, struct trial *trial)
 /* Marks, the count and the nexus records' numbers stay: zeros there would only hide what is wrong. */
 static bool is_field(size_t byte)
 {
+	if (byte < NEXUS_RECORDS)
+		return byte >= HEADER_POLICY && byte != HEADER_COUNT;
 	if (byte < TASK_RECORDS)
-		return byte % RECORD_LENGTH >= NEXUS_PENDING && byte != HEADER_COUNT;
-	return byte % RECORD_LENGTH >= TASK_NEXUS;
+		return (byte - NEXUS_RECORDS) % NEXUS_LENGTH >= NEXUS_PENDING;
+	return (byte - TASK_RECORDS) % TASK_LENGTH >= TASK_NEXUS;
 }
 
 static bool simplify_table(struct run *run, struct trial *trial)
@@ -184,10 +186,10 @@ static bool simplify_table(struct run *run, struct trial *trial)
 
 	if (trial->starts)
 		return simplify_byte(run, trial, offsetof(struct trial, policy));
-	if (trial->table_length != DEDAKHUMI_TABLE_LENGTH)
+	if (trial->table_length != TABLE_LENGTH)
 		return false;
 	shrunk = restore_all_unused(run, trial);
-	for (size_t byte = 0; byte < DEDAKHUMI_TABLE_LENGTH; byte++)
+	for (size_t byte = 0; byte < TABLE_LENGTH; byte++)
 		if (is_field(byte))
 			shrunk |= simplify_byte(run, trial, offsetof(struct trial, table) + byte);
 	return shrunk;

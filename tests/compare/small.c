@@ -13,7 +13,7 @@ static void add_small_task(uint64_t *random, uint8_t *table, unsigned number)
 {
 	uint8_t nexus = number % SMALL_NEXUSES;
 	uint8_t attribute = number / SMALL_NEXUSES % SMALL_ATTRIBUTES;
-	uint16_t tag = number / (SMALL_NEXUSES * SMALL_ATTRIBUTES) % SMALL_TAGS;
+	tag_number tag = number / (SMALL_NEXUSES * SMALL_ATTRIBUTES) % SMALL_TAGS;
 	uint8_t *task = table_add(table, nexus, attribute, (uint8_t)random_below(random, 2), tag);
 
 	task[TASK_STATE] = (uint8_t)(number / (SMALL_NEXUSES * SMALL_ATTRIBUTES * SMALL_TAGS));
@@ -24,7 +24,7 @@ static void apply_firsts(struct session *session, uint8_t kind, uint8_t nexus, u
 {
 	for (unsigned first = 0; first <= 6; first++) {
 		bool tagged = kind == COMMAND || kind == COMPLETION || first < ABORT_TASK_SET;
-		uint16_t tag = (uint16_t)random_below(&session->random, SMALL_TAGS + 1);
+		tag_number tag = (tag_number)random_below(&session->random, SMALL_TAGS + 1);
 
 		session_reopen(session);
 		event_write(session_new_step(session), kind, nexus, (uint8_t)first, second, tagged ? tag : 0);

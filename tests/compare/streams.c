@@ -2,7 +2,7 @@
 #include "events.h"
 #include "random.h"
 
-static const struct range any_range = { NEXUS_COUNT, 65536 };
+static const struct range any_range = { NEXUS_COUNT, TAG_COUNT };
 static const struct range few_range = { 2, 3 };
 static const struct range some_range = { 3, 16 };
 
@@ -26,7 +26,7 @@ static void next_almost_good(uint64_t *random, const uint8_t *table, struct step
 {
 	event_any(random, table, step, (struct range){ NEXUS_COUNT + 2, random_percent(random, 50) ? 1 : 4 });
 	for (unsigned spoilt = random_below(random, 3); spoilt > 0; spoilt--)
-		step->event[random_below(random, DEDAKHUMI_EVENT_LENGTH)] =
+		step->event[random_below(random, EVENT_LENGTH)] =
 			(uint8_t)random_below(random, random_percent(random, 75) ? 9 : 256);
 	if (random_percent(random, 3))
 		step->event_length = (uint8_t)random_below(random, EVENT_ROOM + 1);
@@ -82,7 +82,7 @@ static void next_full(uint64_t *random, const uint8_t *table, struct step *step)
 /* The sides named the same task before; with nothing to name it is a completion of 0.0. */
 static void complete_named(const uint8_t *table, struct step *step, uint8_t status)
 {
-	struct dedakhumi_turn turn = second_name(table, DEDAKHUMI_TABLE_LENGTH);
+	struct dedakhumi_turn turn = second_name(table, TABLE_LENGTH);
 
 	event_write(step, COMPLETION, turn.nexus, status, 0, turn.tag);
 }

@@ -8,29 +8,35 @@ uint8_t good_policy(unsigned number)
 	return policies[number % GOOD_POLICIES];
 }
 
-void table_empty(uint8_t *table, uint8_t policy)
+struct record table_record(size_t number)
 {
-	static const uint8_t header[RECORD_LENGTH] = { 0x54, 0x48, 1, 0, 0, 0, 0, 0 };
-
-	memcpy(table, header, RECORD_LENGTH);
-	table[HEADER_POLICY] = policy;
-	for (size_t nexus = 0; nexus < NEXUS_COUNT; nexus++) {
-		const uint8_t record[RECORD_LENGTH] = { 0x54, 0x4E, (uint8_t)nexus, 0, 0, 0, 0, 0 };
-
-		memcpy(table + nexus_offset(nexus), record, RECORD_LENGTH);
-	}
-	for (size_t place = 0; place < TASK_LIMIT; place++)
-		memcpy(table + task_offset(place), UNUSED_TASK, RECORD_LENGTH);
+	if (number == 0)
+		return (struct record){ 0, HEADER_LENGTH };
+	if (number <= NEXUS_COUNT)
+		return (struct record){ nexus_offset(number - 1), NEXUS_LENGTH };
+	return (struct record){ task_offset(number - 1 - NEXUS_COUNT), TASK_LENGTH };
 }
 
-uint8_t *table_add(uint8_t *table, uint8_t nexus, uint8_t attribute, uint8_t control, uint16_t tag)
+void table_empty(uint8_t *table, uint8_t policy)
+{
+	const uint8_t header[HEADER_LENGTH] = { 0x54, 0x48, 1, policy };
+
+	memcpy(table, header, HEADER_LENGTH);
+	for (size_t nexus = 0; nexus < NEXUS_COUNT; nexus++) {
+		const uint8_t record[NEXUS_LENGTH] = { 0x54, 0x4E, (uint8_t)nexus };
+
+		memcpy(table + nexus_offset(nexus), record, NEXUS_LENGTH);
+	}
+	for (size_t place = 0; place < TASK_LIMIT; place++)
+		write_unused(table + task_offset(place));
+}
+
+uint8_t *table_add(uint8_t *table, uint8_t nexus, uint8_t attribute, uint8_t control, tag_number tag)
 {
 	uint8_t *task = table + task_offset(table[HEADER_COUNT]);
-	const uint8_t record[RECORD_LENGTH] = {
-		0x54, 0x54, nexus, attribute, DORMANT, control, (uint8_t)(tag >> 8), (uint8_t)tag
-	};
+	const uint8_t record[TASK_LENGTH] = { 0x54, 0x54, nexus, attribute, DORMANT, control, TAG_BYTES(tag) };
 
-	memcpy(task, record, RECORD_LENGTH);
+	memcpy(task, record, TASK_LENGTH);
 	table[HEADER_COUNT]++;
 	return task;
 }
@@ -75,7 +81,7 @@ static void block_some_eligible(uint64_t *random, uint8_t *table)
 	}
 }
 
-static bool has_task(const uint8_t *table, uint8_t nexus, uint16_t tag)
+static bool has_task(const uint8_t *table, uint8_t nexus, tag_number tag)
 {
 	for (size_t place = 0; place < table[HEADER_COUNT]; place++) {
 		const uint8_t *task = table + task_offset(place);
@@ -93,16 +99,16 @@ static uint8_t random_attribute(uint64_t *random, unsigned simple_percent)
 	return (uint8_t)random_below(random, 3);
 }
 
-/* Few tags make neighbours of tasks that differ in one field only; 64 tags a nexus always leave room. */
+/* Few tags make neighbours of tasks that differ in one field only; as many as there are tasks always leave room. */
 static void add_tasks(uint64_t *random, uint8_t *table, size_t count)
 {
-	unsigned tags = random_percent(random, 50) ? 64 : 65536;
+	uint64_t tags = random_percent(random, 50) ? TASK_LIMIT : TAG_COUNT;
 	unsigned nexuses = 1 + random_below(random, NEXUS_COUNT);
 	unsigned simple_percent = random_below(random, 101);
 
 	while (table[HEADER_COUNT] < count) {
 		uint8_t nexus = (uint8_t)random_below(random, nexuses);
-		uint16_t tag = (uint16_t)random_below(random, tags);
+		tag_number tag = (tag_number)random_below(random, tags);
 
 		if (!has_task(table, nexus, tag))
 			table_add(table, nexus, random_attribute(random, simple_percent), random_percent(random, 50), tag);
@@ -112,7 +118,7 @@ static void add_tasks(uint64_t *random, uint8_t *table, size_t count)
 static void add_aca_task(uint64_t *random, uint8_t *table)
 {
 	uint8_t nexus = table[HEADER_ACA] - 1;
-	uint16_t tag = (uint16_t)random_below(random, 65536);
+	tag_number tag = (tag_number)random_below(random, TAG_COUNT);
 
 	if (table[HEADER_COUNT] == TASK_LIMIT || has_task(table, nexus, tag))
 		return;

@@ -8,7 +8,7 @@
 enum {
 	/* Lent buffers lie in a room of this many bytes, all of which is compared. */
 	ROOM_LENGTH = 1024,
-	EVENT_ROOM = 16,
+	EVENT_ROOM = 2 * EVENT_LENGTH,
 	STEP_LIMIT = 512,
 	FILL_ZEROS = 0,
 	FILL_ONES = 1
@@ -36,13 +36,16 @@ struct trial {
 	struct step steps[STEP_LIMIT];
 };
 
+enum buffer { TABLE_BUFFER, REPORT_BUFFER, EVENT_BUFFER };
+
 /* Where the two sides part. */
 struct difference {
 	/* The number of the step, or NO_STEP at the opening. */
 	size_t step;
 	const char *place;
-	/* The byte for places that are buffers, else -1. */
+	/* The byte for places that are in a buffer, else -1. */
 	long byte;
+	enum buffer buffer;
 	unsigned archive;
 	unsigned second;
 	struct dedakhumi_answer answers[2];

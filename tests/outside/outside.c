@@ -54,7 +54,7 @@ static bool take_start(struct reading *reading, const char *line)
 
 static bool take_event(struct reading *reading, const char *line)
 {
-	uint8_t event[DEDAKHUMI_EVENT_LENGTH];
+	uint8_t event[EVENT_LENGTH];
 	struct box *box = &reading->box;
 	if (!event_from(line, event))
 		return false;

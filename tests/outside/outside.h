@@ -7,18 +7,19 @@
 #include <stdint.h>
 
 #include "dedakhumi.h"
+#include "layout.h"
 
 enum { TEXT_LENGTH = 4000 };
 
 /* What the box shows after an event. */
 struct box {
-	uint8_t table[DEDAKHUMI_TABLE_LENGTH];
-	uint8_t report[DEDAKHUMI_REPORT_LENGTH];
+	uint8_t table[TABLE_LENGTH];
+	uint8_t report[REPORT_LENGTH];
 	struct dedakhumi_answer answer;
 };
 
 /* False if the line is no event line. */
-bool event_from(const char *line, uint8_t event[DEDAKHUMI_EVENT_LENGTH]);
+bool event_from(const char *line, uint8_t event[EVENT_LENGTH]);
 
 /* What is said about: the answer, the ended tasks, the states, the task named, the ACA. */
 enum subject { ANSWER, ENDED, STATES, NAMED, ALLEGIANCE, SUBJECTS };

@@ -7,9 +7,6 @@
 
 const char *const subject_words[SUBJECTS] = {"answer", "ended", "states", "named", "aca"};
 
-/* Document 01, "Bytes". */
-enum { COUNT_BYTE = 4, ACA_BYTE = 5, TASK_RECORDS = 72, RECORD_LENGTH = 8, MOST_TASKS = 64 };
-
 static void add(char *text, const char *format, ...)
 {
 	size_t used = strlen(text);
@@ -25,14 +22,9 @@ static const char *state_word(uint8_t state)
 	return state < 4 ? words[state] : "no state";
 }
 
-static unsigned tag_of(const uint8_t *record)
-{
-	return record[6] * 256u + record[7];
-}
-
 unsigned task_count(const struct box *box)
 {
-	return box->table[COUNT_BYTE] < MOST_TASKS ? box->table[COUNT_BYTE] : MOST_TASKS;
+	return box->table[HEADER_COUNT] < TASK_LIMIT ? box->table[HEADER_COUNT] : TASK_LIMIT;
 }
 
 static void show_answer(const struct box *box, char *text)
@@ -43,15 +35,15 @@ static void show_answer(const struct box *box, char *text)
 
 static void show_ended(const struct box *box, char *text)
 {
-	for (const uint8_t *record = box->report; record < box->report + sizeof box->report && record[0] != 0; record += RECORD_LENGTH)
-		add(text, "%s%u.%u %02X", text[0] ? ", " : "", record[2], tag_of(record), record[3]);
+	for (const uint8_t *ended = box->report; ended < box->report + sizeof box->report && ended[0] != 0; ended += ENDED_LENGTH)
+		add(text, "%s%u.%u %02X", text[0] ? ", " : "", ended[ENDED_NEXUS], read_tag(ended + ENDED_TAG), ended[ENDED_STATUS]);
 }
 
 static void show_states(const struct box *box, char *text)
 {
 	for (unsigned i = 0; i < task_count(box); i++) {
-		const uint8_t *record = box->table + TASK_RECORDS + RECORD_LENGTH * i;
-		add(text, "%s%u.%u %s", text[0] ? ", " : "", record[2], tag_of(record), state_word(record[4]));
+		const uint8_t *task = box->table + task_offset(i);
+		add(text, "%s%u.%u %s", text[0] ? ", " : "", task[TASK_NEXUS], read_tag(task + TASK_TAG), state_word(task[TASK_STATE]));
 	}
 }
 
@@ -68,8 +60,8 @@ static void show_named(const struct box *box, char *text)
 
 static void show_allegiance(const struct box *box, char *text)
 {
-	if (box->table[ACA_BYTE] != 0)
-		add(text, "%u", box->table[ACA_BYTE] - 1u);
+	if (box->table[HEADER_ACA] != 0)
+		add(text, "%u", box->table[HEADER_ACA] - 1u);
 }
 
 void show(enum subject subject, const struct box *box, char text[TEXT_LENGTH])

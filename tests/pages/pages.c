@@ -5,8 +5,10 @@
 #include <string.h>
 
 #include "calls.h"
-#include "dedakhumi.h"
 #include "samples.h"
+
+/* Table, report and event. */
+enum { BUFFERS = 3 };
 
 /* As many as the longest buffer, which fills its page. */
 static uint8_t *report_bytes;
@@ -31,7 +33,7 @@ static const char *join(const char *event, const char *table)
 /* Each buffer at a page's start and at its end, in all combinations, and all three inside at odd addresses. */
 static void apply_everywhere(struct application application, enum answer refusal)
 {
-	for (unsigned combination = 0; combination < 8; combination++) {
+	for (unsigned combination = 0; combination < 1u << BUFFERS; combination++) {
 		application.table_place = combination & 1 ? AT_END : AT_START;
 		application.report_place = combination & 2 ? AT_END : AT_START;
 		application.event_place = combination & 4 ? AT_END : AT_START;
@@ -61,7 +63,7 @@ static void apply_each_event(const struct sample_table *table, bool good)
 		const struct sample_event *event = &sample_events[i];
 		struct application application = {.what = join(event->name, table->name),
 						  .table = lend(table->bytes, sizeof table->bytes),
-						  .report = lend(report_bytes, DEDAKHUMI_REPORT_LENGTH),
+						  .report = lend(report_bytes, REPORT_LENGTH),
 						  .event = lend(event->bytes, sizeof event->bytes)};
 		apply_everywhere(application, good ? event->refusal : BAD_TABLE);
 	}
@@ -90,26 +92,32 @@ static void try_bad_tables(void)
 /* "The lowest of 1 to 4 that applies is given." */
 static enum answer refusal_by_length(size_t table, size_t report, size_t event, enum answer otherwise)
 {
-	if (table != DEDAKHUMI_TABLE_LENGTH)
+	if (table != TABLE_LENGTH)
 		return BAD_TABLE;
-	if (report != DEDAKHUMI_REPORT_LENGTH)
+	if (report != REPORT_LENGTH)
 		return BAD_REPORT;
-	return event != DEDAKHUMI_EVENT_LENGTH ? BAD_EVENT : otherwise;
+	return event != EVENT_LENGTH ? BAD_EVENT : otherwise;
+}
+
+static void apply_event_length(struct application application, size_t length, enum answer otherwise)
+{
+	application.event.length = length;
+	apply_everywhere(application, refusal_by_length(application.table.length, application.report.length, length, otherwise));
 }
 
 static void apply_each_event_length(struct application application, enum answer otherwise)
 {
-	const size_t lengths[] = {0, 1, 2, 3, 4, 5, 6, 7, 8, 9, 16, fence_page_length()};
-	for (size_t i = 0; i < sizeof lengths / sizeof lengths[0]; i++) {
-		application.event.length = lengths[i];
-		apply_everywhere(application, refusal_by_length(application.table.length, application.report.length, lengths[i], otherwise));
-	}
+	for (size_t length = 0; length <= EVENT_LENGTH + 1; length++)
+		apply_event_length(application, length, otherwise);
+	apply_event_length(application, 2 * EVENT_LENGTH, otherwise);
+	apply_event_length(application, fence_page_length(), otherwise);
 }
 
 static void apply_each_length(struct application application, enum answer otherwise)
 {
-	const size_t table_lengths[] = {0, 1, 8, 72, 583, 584, 585, 1168, fence_page_length()};
-	const size_t report_lengths[] = {0, 1, 511, 512, 513, fence_page_length()};
+	const size_t table_lengths[] = {0, 1, HEADER_LENGTH, TASK_RECORDS, TABLE_LENGTH - 1, TABLE_LENGTH, TABLE_LENGTH + 1, 2 * TABLE_LENGTH,
+		fence_page_length()};
+	const size_t report_lengths[] = {0, 1, REPORT_LENGTH - 1, REPORT_LENGTH, REPORT_LENGTH + 1, fence_page_length()};
 	for (size_t i = 0; i < sizeof table_lengths / sizeof table_lengths[0]; i++)
 		for (size_t j = 0; j < sizeof report_lengths / sizeof report_lengths[0]; j++) {
 			application.table.length = table_lengths[i];
@@ -136,7 +144,7 @@ static void try_lengths_of_one_table(size_t index)
 	sample_good_table(index, &table);
 	uint8_t *table_bytes = repeated(table.bytes, sizeof table.bytes);
 	for (size_t i = 0; i < sample_event_count; i += 6) {
-		uint8_t *event_bytes = repeated(sample_events[i].bytes, DEDAKHUMI_EVENT_LENGTH);
+		uint8_t *event_bytes = repeated(sample_events[i].bytes, EVENT_LENGTH);
 		struct application application = {.what = join(sample_events[i].name, table.name),
 						  .table.bytes = table_bytes,
 						  .report.bytes = report_bytes,
@@ -158,12 +166,12 @@ static void try_null_pointers(void)
 {
 	struct sample_table table;
 	sample_good_table(0, &table);
-	for (unsigned nulls = 1; nulls < 8; nulls++) {
+	for (unsigned nulls = 1; nulls < 1u << BUFFERS; nulls++) {
 		struct application application = {
 			.what = "null pointers",
 			.table = nulls & 1 ? lend_null() : lend(table.bytes, sizeof table.bytes),
-			.report = nulls & 2 ? lend_null() : lend(report_bytes, DEDAKHUMI_REPORT_LENGTH),
-			.event = nulls & 4 ? lend_null() : lend(sample_events[0].bytes, DEDAKHUMI_EVENT_LENGTH)};
+			.report = nulls & 2 ? lend_null() : lend(report_bytes, REPORT_LENGTH),
+			.event = nulls & 4 ? lend_null() : lend(sample_events[0].bytes, EVENT_LENGTH)};
 		apply_everywhere(application,
 				 refusal_by_length(application.table.length, application.report.length, application.event.length, DONE));
 	}
@@ -174,17 +182,18 @@ static void try_null_pointers(void)
 
 static bool policy_is_good(unsigned policy)
 {
-	return policy < 8 && (policy & 3) != 2;
+	return policy <= (POLICY_QERR | POLICY_TAS) && (policy & POLICY_QERR) != QERR_BAD;
 }
 
 static void try_start_and_name_lengths(void)
 {
-	const size_t lengths[] = {0, 1, 8, 72, 583, 584, 585, 1168, fence_page_length()};
+	const size_t lengths[] = {0, 1, HEADER_LENGTH, TASK_RECORDS, TABLE_LENGTH - 1, TABLE_LENGTH, TABLE_LENGTH + 1, 2 * TABLE_LENGTH,
+		fence_page_length()};
 	struct sample_table table;
 	sample_good_table(0, &table);
 	uint8_t *bytes = repeated(table.bytes, sizeof table.bytes);
 	for (size_t i = 0; i < sizeof lengths / sizeof lengths[0]; i++) {
-		bool right = lengths[i] == DEDAKHUMI_TABLE_LENGTH;
+		bool right = lengths[i] == TABLE_LENGTH;
 		name_everywhere("a length", lend(bytes, lengths[i]), right ? DONE : BAD_TABLE);
 		for (unsigned policy = 0; policy < 256; policy++)
 			start_everywhere("a length and a policy", lend(report_bytes, lengths[i]), (uint8_t)policy,
@@ -199,7 +208,7 @@ static void try_changed_table(const struct sample_table *table, const struct sam
 	struct lent lent = lend(table->bytes, sizeof table->bytes);
 	struct application application = {.what = join(event->name, table->name),
 					  .table = lent,
-					  .report = lend(report_bytes, DEDAKHUMI_REPORT_LENGTH),
+					  .report = lend(report_bytes, REPORT_LENGTH),
 					  .event = lend(event->bytes, sizeof event->bytes),
 					  .table_place = place,
 					  .report_place = place,

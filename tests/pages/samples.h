@@ -6,25 +6,20 @@
 #include <stdint.h>
 
 #include "calls.h"
-#include "dedakhumi.h"
-
-/* Document 01, "Bytes". */
-enum { SIMPLE = 0, HEAD_OF_QUEUE = 1, ORDERED = 2, ACA = 4 };
-enum { DORMANT = 1, ENABLED = 2, BLOCKED = 3 };
-enum { NEXUS_RECORDS = 8, TASK_RECORDS = 72, RECORD_LENGTH = 8 };
+#include "layout.h"
 
 /* Good tables that others are made from: places in the list of tables.c. */
 enum { EMPTY = 0, CASE_B = 4, FULL = 7, ACA_ALONE = 11, ACA_AND_TASK = 12 };
 
 struct sample_table {
 	const char *name;
-	uint8_t bytes[DEDAKHUMI_TABLE_LENGTH];
+	uint8_t bytes[TABLE_LENGTH];
 };
 
-/* The refusal that the event's 8 bytes ask for: BAD_EVENT, NEXUS_ABOVE_SEVEN, or DONE for none. */
+/* The refusal that the event's bytes ask for: BAD_EVENT, NEXUS_ABOVE_SEVEN, or DONE for none. */
 struct sample_event {
 	const char *name;
-	uint8_t bytes[DEDAKHUMI_EVENT_LENGTH];
+	uint8_t bytes[EVENT_LENGTH];
 	enum answer refusal;
 };
 
