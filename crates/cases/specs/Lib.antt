@@ -1,4 +1,6 @@
+pub mod Makers
 pub mod Play
+pub mod Shorthand
 pub mod Paper
 pub mod Begin
 pub mod Errors
