@@ -1,5 +1,6 @@
 pub mod Makers
 pub mod Play
+pub mod Printed
 pub mod Shorthand
 pub mod Paper
 pub mod Begin

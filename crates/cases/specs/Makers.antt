@@ -10,7 +10,8 @@
 -- "Table: header, 8 nexus records in order 0 to 7, 64 task records; 584 bytes. Used task records come first, oldest first. Unused ones are 54 54 and six
 -- zeros. Report: 512 bytes, the tasks ended by this event in their former age order, then zeros to the end."
 --
--- The makers are the cases' own, written from that text, and take a wrong value as well as a right one. tests/cases reads this file.
+-- The makers are the cases' own, written from that text, and take a wrong value as well as a right one. `Printed` holds them to bytes that document 01
+-- prints. tests/cases reads this file: of widths and places it has no other.
 --
 --   headerWidth, nexusWidth, taskWidth, endedWidth, eventWidth  := the bytes of a record of each kind
 --   nexusCount, taskCount      := the nexus records and the task records of a table
