@@ -11,7 +11,7 @@
 -- zeros. Report: 512 bytes, the tasks ended by this event in their former age order, then zeros to the end."
 --
 -- The makers are the cases' own, written from that text, and take a wrong value as well as a right one. `Printed` holds them to bytes that document 01
--- prints. tests/cases reads this file: of widths and places it has no other.
+-- prints. The Python of tests/cases reads this file, and has no width or place of its own.
 --
 --   headerWidth, nexusWidth, taskWidth, endedWidth, eventWidth  := the bytes of a record of each kind
 --   nexusCount, taskCount      := the nexus records and the task records of a table
@@ -63,10 +63,10 @@ endedWidth = 8
 abbrev pub eventWidth : ℕ
 eventWidth = 8
 
-abbrev pub nexusCount : ℕ
+abbrev nexusCount : ℕ
 nexusCount = 8
 
-abbrev pub taskCount : ℕ
+abbrev taskCount : ℕ
 taskCount = 64
 
 abbrev pub nexusAt : ℕ → ℕ
