@@ -4,10 +4,18 @@ What it does not know it refuses, so that no line of a case is passed over."""
 import operator
 import re
 
-TOKEN = re.compile(r"\s+|(0x[0-9A-Fa-f_]+|[0-9]+|[A-Za-z][A-Za-z0-9]*|∷|\+\+|\[\]|[()+*=;{}])")
+TOKEN = re.compile(r"\s+|(0x[0-9A-Fa-f_]+|[0-9]+|[A-Za-z][A-Za-z0-9]*|∷|\+\+|\[\]|[-()+*/%=;{}])")
 CITED = re.compile(r"use Rattle\.cases\.specs\.(\w+)\.\{(.*)\}")
-LEVELS = [("∷", "++"), ("+",), ("*",)]
-OPERATORS = {"∷": lambda first, rest: [first] + rest, "++": operator.add, "+": operator.add, "*": operator.mul}
+LEVELS = [("∷", "++"), ("+", "-"), ("*", "/", "%")]
+OPERATORS = {
+    "∷": lambda first, rest: [first] + rest,
+    "++": operator.add,
+    "+": operator.add,
+    "-": lambda left, right: max(left - right, 0),
+    "*": operator.mul,
+    "/": operator.floordiv,
+    "%": operator.mod,
+}
 
 
 class Unread(Exception):

@@ -1,11 +1,41 @@
-/* A row for each 8 bytes, and one row `*` for a run of rows equal to the one before, so that nothing is left out. */
+/* A row for each record, and one row `*` for a run of rows equal to the one before, so that nothing is left out. Bytes behind a whole table or
+   report are printed as if its records went on. */
 #include "dump.h"
+
+#include <dedakhumi.h>
 
 #include <stdbool.h>
 #include <stdio.h>
 #include <string.h>
 
-enum { ROW = 8 };
+/* From the places and lengths of dedakhumi.h, so that no width stands here. */
+enum {
+	HEADER_WIDTH = DEDAKHUMI_NEXUS_OFFSET - DEDAKHUMI_HEADER_OFFSET,
+	NEXUS_WIDTH = (DEDAKHUMI_TASK_OFFSET - DEDAKHUMI_NEXUS_OFFSET) / DEDAKHUMI_NEXUSES,
+	TASK_WIDTH = (DEDAKHUMI_TABLE_LENGTH - DEDAKHUMI_TASK_OFFSET) / DEDAKHUMI_TASKS,
+	ENDED_WIDTH = DEDAKHUMI_REPORT_LENGTH / DEDAKHUMI_TASKS
+};
+
+struct stretch {
+	const uint8_t *bytes;
+	size_t length;
+};
+
+/* The width of the record that begins at that byte. */
+typedef size_t width_at(size_t from);
+
+static size_t width_in_table(size_t from)
+{
+	if (from < DEDAKHUMI_NEXUS_OFFSET)
+		return HEADER_WIDTH;
+	return from < DEDAKHUMI_TASK_OFFSET ? NEXUS_WIDTH : TASK_WIDTH;
+}
+
+static size_t width_in_report(size_t from)
+{
+	(void)from;
+	return ENDED_WIDTH;
+}
 
 void print_hexes(const uint8_t *bytes, size_t length)
 {
@@ -13,31 +43,46 @@ void print_hexes(const uint8_t *bytes, size_t length)
 		printf(" %02X", bytes[i]);
 }
 
-static size_t row_length(size_t length, size_t from)
+static struct stretch row_at(struct stretch buffer, size_t from, size_t width)
 {
-	return length - from < ROW ? length - from : ROW;
+	size_t rest = buffer.length - from;
+	return (struct stretch){buffer.bytes + from, rest < width ? rest : width};
 }
 
-static bool repeats(const uint8_t *bytes, size_t length, size_t from)
+static bool same(struct stretch first, struct stretch second)
 {
-	return from >= ROW && row_length(length, from) == ROW && memcmp(bytes + from, bytes + from - ROW, ROW) == 0;
+	return first.length == second.length && memcmp(first.bytes, second.bytes, first.length) == 0;
 }
 
-static void print_row(const uint8_t *bytes, size_t length, size_t from)
+static void print_row(struct stretch row)
 {
-	if (!repeats(bytes, length, from)) {
-		printf(" ");
-		print_hexes(bytes + from, row_length(length, from));
-		printf("\n");
-	} else if (!repeats(bytes, length, from - ROW)) {
-		printf("  *\n");
-	}
+	printf(" ");
+	print_hexes(row.bytes, row.length);
+	printf("\n");
 }
 
 /* The rows do not show how long a last run is; the count of bytes does. */
-void print_dump(const char *title, const uint8_t *bytes, size_t length)
+static void print_dump(const char *title, struct stretch buffer, width_at *width)
 {
-	printf("%s, %zu bytes\n", title, length);
-	for (size_t from = 0; from < length; from += ROW)
-		print_row(bytes, length, from);
+	struct stretch row, before = {buffer.bytes, 0};
+	bool in_run = false;
+	printf("%s, %zu bytes\n", title, buffer.length);
+	for (size_t from = 0; from < buffer.length; from += row.length, before = row) {
+		row = row_at(buffer, from, width(from));
+		if (!same(row, before))
+			print_row(row);
+		else if (!in_run)
+			printf("  *\n");
+		in_run = same(row, before);
+	}
+}
+
+void print_table(const uint8_t *bytes, size_t length)
+{
+	print_dump("table", (struct stretch){bytes, length}, width_in_table);
+}
+
+void print_report(const uint8_t *bytes, size_t length)
+{
+	print_dump("report", (struct stretch){bytes, length}, width_in_report);
 }

@@ -77,7 +77,7 @@ static void start(const struct stage *stage, uint8_t policy)
 {
 	uint8_t answer = dedakhumi_start(stage->table.bytes, stage->table.length, policy);
 	printf("start %02X: answer %u\n", policy, answer);
-	print_dump("table", stage->table.bytes, stage->table.length);
+	print_table(stage->table.bytes, stage->table.length);
 }
 
 static void name(const struct stage *stage)
@@ -94,8 +94,8 @@ static void apply(const struct stage *stage, const struct buffer *event)
 	printf("event");
 	print_hexes(event->bytes, event->length);
 	printf(": %u %02X %02X %02X %02X %u\n", a.answer, a.status, a.key, a.code, a.qualifier, a.ended);
-	print_dump("table", table.bytes, table.length);
-	print_dump("report", report.bytes, report.length);
+	print_table(table.bytes, table.length);
+	print_report(report.bytes, report.length);
 	free(report.bytes);
 }
 

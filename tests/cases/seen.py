@@ -1,5 +1,32 @@
 """A case as the replay takes it in and as it has to write it: frames, and the lines that show all that is seen."""
+from dataclasses import dataclass
+
 from play import SAME, Apply, Lend, Name, Start
+
+
+@dataclass
+class Layout:
+    """How wide the records are, and where those of a table begin."""
+    header_width: int
+    nexus_width: int
+    task_width: int
+    ended_width: int
+    nexuses_at: int
+    tasks_at: int
+
+    @classmethod
+    def made_by(cls, makers):
+        """`makers` gives what Makers.antt defines under a name."""
+        widths = [makers(f"{kind}Width") for kind in ("header", "nexus", "task", "ended")]
+        return cls(*widths, makers("nexusAt")(0), makers("taskAt")(0))
+
+    def width_in_table(self, at):
+        if at < self.nexuses_at:
+            return self.header_width
+        return self.nexus_width if at < self.tasks_at else self.task_width
+
+    def width_in_report(self, at):
+        return self.ended_width
 
 
 def frame(kind, number=0, payload=b""):
@@ -28,10 +55,18 @@ def hexed(bytes_given):
     return "".join(f" {byte:02X}" for byte in bytes_given)
 
 
-def dumped(title, bytes_given):
-    """As hexdump prints: a line for each 8 bytes, and one `*` for a run of lines equal to the one before."""
+def rows_of(bytes_given, width_at):
+    rows, at = [], 0
+    while at < len(bytes_given):
+        rows.append(bytes_given[at:at + width_at(at)])
+        at += len(rows[-1])
+    return rows
+
+
+def dumped(title, bytes_given, width_at):
+    """As hexdump prints: a line for each record, and one `*` for a run of lines equal to the one before."""
     yield f"{title}, {len(bytes_given)} bytes"
-    rows = [bytes_given[at:at + 8] for at in range(0, len(bytes_given), 8)]
+    rows = rows_of(bytes_given, width_at)
     for place, row in enumerate(rows):
         if place == 0 or row != rows[place - 1]:
             yield " " + hexed(row)
@@ -48,7 +83,7 @@ def first_line(move):
     return f"event{hexed(move.event)}: {answer}{hexed(sense)} {ended}"
 
 
-def lines(case):
+def lines(case, layout):
     """Only what the case's text says goes in here; no operation is run."""
     yield f"case {case.name}"
     table = case.begins
@@ -60,6 +95,6 @@ def lines(case):
         if isinstance(move, Name):
             continue
         table = table if move.table is SAME else move.table
-        yield from dumped("table", table)
+        yield from dumped("table", table, layout.width_in_table)
         if isinstance(move, Apply):
-            yield from dumped("report", case.buffer if move.report is SAME else move.report)
+            yield from dumped("report", case.buffer if move.report is SAME else move.report, layout.width_in_report)

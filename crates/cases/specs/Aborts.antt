@@ -1,41 +1,34 @@
 -- Document 01, "Ends, ACA and aborts": QERR, TAS, who is told.
 use mathlib.Core.List.{[], _∷_}
-use Rattle.cases.specs.Play.{bits, quiet, table, report, line, lend, does, keeps, Case, from}
+use Rattle.cases.specs.Makers.{simple, headOfQueue, dormant, enabled}
+use Rattle.cases.specs.Makers.{header, task, ended, command, completion, management, condition, bits, quiet, table, report}
+use Rattle.cases.specs.Shorthand.{line, does, keeps, from}
+use Rattle.cases.specs.Play.{lend, Case}
 
 -- "QERR: 00b none": the others stay as they are
 abbrev pub qerrNone : Case
 qerrNone =
-    from (table 0x54_48_01_04_02_00_00_00 quiet (0x54_54_00_00_02_00_00_01 ∷ 0x54_54_00_00_02_00_00_02 ∷ []))
-    (does 0x54_56_02_00_02_00_00_01 (line 0 0 0 0 0 1)
-    (table 0x54_48_01_04_01_00_00_00 quiet (0x54_54_00_00_02_00_00_02 ∷ [])) (report (0x54_45_00_02_00_00_00_01 ∷ []))
+    from (table (header 0x04 2 0 0) quiet (task 0 simple enabled 0 1 ∷ task 0 simple enabled 0 2 ∷ []))
+    (does (completion 0 0x02 1) (line 0 0 0 0 0 1) (table (header 0x04 1 0 0) quiet (task 0 simple enabled 0 2 ∷ [])) (report (ended 0 0x02 1 ∷ []))
     ∷ [])
 
 -- DECISIONS: "The completed task keeps its age place in the report among those aborted with it. QERR applies with NACA 1 too, before the ACA."
 abbrev pub qerrAll : Case
 qerrAll =
-    from
-    (table 0x54_48_01_01_03_00_00_00 quiet
-    (0x54_54_01_00_02_00_00_01 ∷ 0x54_54_00_00_02_01_00_01 ∷ 0x54_54_02_00_02_00_00_01 ∷ []))
-    (does 0x54_56_02_00_02_00_00_01 (line 0 0 0 0 0 3)
-    (table 0x54_48_01_01_00_01_00_00 (bits 0 0x10 0x10 0 0 0 0 0) [])
-    (report (0x54_45_01_FF_00_00_00_01 ∷ 0x54_45_00_02_00_00_00_01 ∷ 0x54_45_02_FF_00_00_00_01 ∷ []))
+    from (table (header 0x01 3 0 0) quiet (task 1 simple enabled 0 1 ∷ task 0 simple enabled 1 1 ∷ task 2 simple enabled 0 1 ∷ []))
+    (does (completion 0 0x02 1) (line 0 0 0 0 0 3)
+    (table (header 0x01 0 1 0) (bits 0 0x10 0x10 0 0 0 0 0) []) (report (ended 1 0xFF 1 ∷ ended 0 0x02 1 ∷ ended 2 0xFF 1 ∷ []))
     ∷ [])
 
 -- "11b the rest of that nexus". DECISIONS: "QERR 11b tells nobody": 0.2 gets FFh with TAS 0 and with TAS 1
 abbrev pub qerrNexus : Case
 qerrNexus =
-    from
-    (table 0x54_48_01_03_03_00_00_00 quiet
-    (0x54_54_00_00_02_00_00_01 ∷ 0x54_54_01_00_02_00_00_01 ∷ 0x54_54_00_00_02_00_00_02 ∷ []))
-    (does 0x54_56_02_00_02_00_00_01 (line 0 0 0 0 0 2)
-    (table 0x54_48_01_03_01_00_00_00 quiet (0x54_54_01_00_02_00_00_01 ∷ []))
-    (report (0x54_45_00_02_00_00_00_01 ∷ 0x54_45_00_FF_00_00_00_02 ∷ []))
-    ∷ lend
-    (table 0x54_48_01_07_03_00_00_00 quiet
-    (0x54_54_00_00_02_00_00_01 ∷ 0x54_54_01_00_02_00_00_01 ∷ 0x54_54_00_00_02_00_00_02 ∷ []))
-    ∷ does 0x54_56_02_00_02_00_00_01 (line 0 0 0 0 0 2)
-    (table 0x54_48_01_07_01_00_00_00 quiet (0x54_54_01_00_02_00_00_01 ∷ []))
-    (report (0x54_45_00_02_00_00_00_01 ∷ 0x54_45_00_FF_00_00_00_02 ∷ []))
+    from (table (header 0x03 3 0 0) quiet (task 0 simple enabled 0 1 ∷ task 1 simple enabled 0 1 ∷ task 0 simple enabled 0 2 ∷ []))
+    (does (completion 0 0x02 1) (line 0 0 0 0 0 2)
+    (table (header 0x03 1 0 0) quiet (task 1 simple enabled 0 1 ∷ [])) (report (ended 0 0x02 1 ∷ ended 0 0xFF 2 ∷ []))
+    ∷ lend (table (header 0x07 3 0 0) quiet (task 0 simple enabled 0 1 ∷ task 1 simple enabled 0 1 ∷ task 0 simple enabled 0 2 ∷ []))
+    ∷ does (completion 0 0x02 1) (line 0 0 0 0 0 2)
+    (table (header 0x07 1 0 0) quiet (task 1 simple enabled 0 1 ∷ [])) (report (ended 0 0x02 1 ∷ ended 0 0xFF 2 ∷ []))
     ∷ [])
 
 -- "If TAS is 0, each other nexus that lost a task so gets bit 4." DECISIONS: "Bit 4 is set beside higher bits too, only for nexuses that lost a task
@@ -43,22 +36,18 @@ qerrNexus =
 abbrev pub clearTaskSet : Case
 clearTaskSet =
     from
-    (table 0x54_48_01_00_04_00_01_00 (bits 0 0 1 1 0 0 0 0)
-    (0x54_54_00_00_02_00_00_01 ∷ 0x54_54_01_00_02_00_00_01 ∷ 0x54_54_02_01_02_00_00_01 ∷ 0x54_54_01_00_01_00_00_02 ∷ []))
-    (does 0x54_56_03_00_03_00_00_00 (line 0 0 0 0 0 4)
-    (table 0x54_48_01_00_00_00_01_00 (bits 0 0x10 0x11 1 0 0 0 0) [])
-    (report (0x54_45_00_FF_00_00_00_01 ∷ 0x54_45_01_FF_00_00_00_01 ∷ 0x54_45_02_FF_00_00_00_01 ∷ 0x54_45_01_FF_00_00_00_02 ∷ []))
+    (table (header 0x00 4 0 1) (bits 0 0 1 1 0 0 0 0)
+    (task 0 simple enabled 0 1 ∷ task 1 simple enabled 0 1 ∷ task 2 headOfQueue enabled 0 1 ∷ task 1 simple dormant 0 2 ∷ []))
+    (does (management 0 3 0) (line 0 0 0 0 0 4)
+    (table (header 0x00 0 0 1) (bits 0 0x10 0x11 1 0 0 0 0) []) (report (ended 0 0xFF 1 ∷ ended 1 0xFF 1 ∷ ended 2 0xFF 1 ∷ ended 1 0xFF 2 ∷ []))
     ∷ [])
 
 -- "tasks of a nexus other than the causing one get TASK ABORTED 40h if TAS is 1", and then no bit 4
 abbrev pub clearTaskSetTas : Case
 clearTaskSetTas =
-    from
-    (table 0x54_48_01_04_03_00_00_00 (bits 0 0 1 0 0 0 0 0)
-    (0x54_54_00_00_02_00_00_01 ∷ 0x54_54_01_00_02_00_00_01 ∷ 0x54_54_02_00_02_00_00_01 ∷ []))
-    (does 0x54_56_03_00_03_00_00_00 (line 0 0 0 0 0 3)
-    (table 0x54_48_01_04_00_00_00_00 (bits 0 0 1 0 0 0 0 0) [])
-    (report (0x54_45_00_FF_00_00_00_01 ∷ 0x54_45_01_40_00_00_00_01 ∷ 0x54_45_02_40_00_00_00_01 ∷ []))
+    from (table (header 0x04 3 0 0) (bits 0 0 1 0 0 0 0 0) (task 0 simple enabled 0 1 ∷ task 1 simple enabled 0 1 ∷ task 2 simple enabled 0 1 ∷ []))
+    (does (management 0 3 0) (line 0 0 0 0 0 3)
+    (table (header 0x04 0 0 0) (bits 0 0 1 0 0 0 0 0) []) (report (ended 0 0xFF 1 ∷ ended 1 0x40 1 ∷ ended 2 0x40 1 ∷ []))
     ∷ [])
 
 -- DECISIONS: "40h only by CLEAR TASK SET and QERR": under TAS 1 ABORT TASK, ABORT TASK SET, overlap, nexus loss and logical unit reset give FFh, and
@@ -66,22 +55,18 @@ clearTaskSetTas =
 abbrev pub otherAborts : Case
 otherAborts =
     from
-    (table 0x54_48_01_05_05_00_00_00 quiet
-    (0x54_54_00_00_02_00_00_01 ∷ 0x54_54_01_00_02_00_00_01 ∷ 0x54_54_02_00_02_00_00_01 ∷ 0x54_54_03_00_02_00_00_01
-    ∷ 0x54_54_04_00_02_00_00_01 ∷ []))
-    (does 0x54_56_03_00_01_00_00_01 (line 0 0 0 0 0 1)
-    (table 0x54_48_01_05_04_00_00_00 quiet
-    (0x54_54_01_00_02_00_00_01 ∷ 0x54_54_02_00_02_00_00_01 ∷ 0x54_54_03_00_02_00_00_01 ∷ 0x54_54_04_00_02_00_00_01 ∷ []))
-    (report (0x54_45_00_FF_00_00_00_01 ∷ []))
-    ∷ keeps 0x54_56_03_00_01_00_00_01 (line 0 0 0 0 0 0)
-    ∷ does 0x54_56_03_01_02_00_00_00 (line 0 0 0 0 0 1)
-    (table 0x54_48_01_05_03_00_00_00 quiet (0x54_54_02_00_02_00_00_01 ∷ 0x54_54_03_00_02_00_00_01 ∷ 0x54_54_04_00_02_00_00_01 ∷ []))
-    (report (0x54_45_01_FF_00_00_00_01 ∷ []))
-    ∷ does 0x54_56_01_02_00_00_00_01 (line 7 0x02 0x0B 0x4E 0x00 1)
-    (table 0x54_48_01_05_02_00_00_00 quiet (0x54_54_03_00_02_00_00_01 ∷ 0x54_54_04_00_02_00_00_01 ∷ []))
-    (report (0x54_45_02_FF_00_00_00_01 ∷ []))
-    ∷ does 0x54_56_04_03_03_00_00_00 (line 0 0 0 0 0 1)
-    (table 0x54_48_01_05_01_00_00_00 (bits 0 0 0 8 0 0 0 0) (0x54_54_04_00_02_00_00_01 ∷ [])) (report (0x54_45_03_FF_00_00_00_01 ∷ []))
-    ∷ does 0x54_56_03_00_05_00_00_00 (line 0 0 0 0 0 1)
-    (table 0x54_48_01_05_00_00_00_00 (bits 4 4 4 4 4 4 4 4) []) (report (0x54_45_04_FF_00_00_00_01 ∷ []))
+    (table (header 0x05 5 0 0) quiet
+    (task 0 simple enabled 0 1 ∷ task 1 simple enabled 0 1 ∷ task 2 simple enabled 0 1 ∷ task 3 simple enabled 0 1 ∷ task 4 simple enabled 0 1 ∷ []))
+    (does (management 0 1 1) (line 0 0 0 0 0 1)
+    (table (header 0x05 4 0 0) quiet (task 1 simple enabled 0 1 ∷ task 2 simple enabled 0 1 ∷ task 3 simple enabled 0 1 ∷ task 4 simple enabled 0 1 ∷ []))
+    (report (ended 0 0xFF 1 ∷ []))
+    ∷ keeps (management 0 1 1) (line 0 0 0 0 0 0)
+    ∷ does (management 1 2 0) (line 0 0 0 0 0 1)
+    (table (header 0x05 3 0 0) quiet (task 2 simple enabled 0 1 ∷ task 3 simple enabled 0 1 ∷ task 4 simple enabled 0 1 ∷ []))
+    (report (ended 1 0xFF 1 ∷ []))
+    ∷ does (command 2 simple 0 1) (line 7 0x02 0x0B 0x4E 0x00 1)
+    (table (header 0x05 2 0 0) quiet (task 3 simple enabled 0 1 ∷ task 4 simple enabled 0 1 ∷ [])) (report (ended 2 0xFF 1 ∷ []))
+    ∷ does (condition 3 3) (line 0 0 0 0 0 1)
+    (table (header 0x05 1 0 0) (bits 0 0 0 8 0 0 0 0) (task 4 simple enabled 0 1 ∷ [])) (report (ended 3 0xFF 1 ∷ []))
+    ∷ does (management 0 5 0) (line 0 0 0 0 0 1) (table (header 0x05 0 0 0) (bits 4 4 4 4 4 4 4 4) []) (report (ended 4 0xFF 1 ∷ []))
     ∷ [])

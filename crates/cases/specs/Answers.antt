@@ -1,16 +1,19 @@
 -- Document 01, "Answer numbers": the lowest answer, bad tables and bad events.
-use Prim.Native.Nat.{ℕ}
-use mathlib.Core.List.{List, [], _∷_, _++_}
-use lib.ListN.{take}
-use Rattle.cases.specs.Play.{octets, strung, bits, quiet, table, clear, junk, line, nothing, noTable, same, now, Move, lend, start, name, apply, keeps, refuses, Case, from}
+use Prim.Native.Nat.{ℕ, _+_, _-_}
+use mathlib.Core.List.{List, [], _∷_}
+use Rattle.cases.specs.Makers.{taskWidth, nexusAt, tableLength, reportLength, zeros, junk, changed, shorter, longer}
+use Rattle.cases.specs.Makers.{simple, headOfQueue, ordered, aca, dormant, enabled, blocked}
+use Rattle.cases.specs.Makers.{header, task, unused, event, command, completion, management, condition, bits, quiet, table, clear}
+use Rattle.cases.specs.Shorthand.{line, nothing, noTable, keeps, refuses, from}
+use Rattle.cases.specs.Play.{same, now, Move, lend, start, name, Case}
 
 -- "The lowest of 1 to 4 that applies is given": the table, the report and the event are bad, and the nexus is 8
 abbrev pub lowestIs1 : Case
 lowestIs1 =
     record {
-      begins = junk 583;
-      buffer = junk 511;
-      moves = refuses 0x54_56_01_08_00_04_00_01 1 ∷ [];
+      begins = junk (tableLength - 1);
+      buffer = junk (reportLength - 1);
+      moves = refuses (command 8 simple 4 1) 1 ∷ [];
     }
 
 -- the report and the event are bad, and the nexus is 8
@@ -18,8 +21,8 @@ abbrev pub lowestIs2 : Case
 lowestIs2 =
     record {
       begins = clear 0x00;
-      buffer = junk 511;
-      moves = refuses 0x54_56_01_08_00_04_00_01 2 ∷ [];
+      buffer = junk (reportLength - 1);
+      moves = refuses (command 8 simple 4 1) 2 ∷ [];
     }
 
 -- "report not 512 bytes": one too many
@@ -27,62 +30,62 @@ abbrev pub longReport : Case
 longReport =
     record {
       begins = clear 0x00;
-      buffer = junk 513;
-      moves = refuses 0x54_56_01_00_00_00_00_01 2 ∷ [];
+      buffer = junk (reportLength + 1);
+      moves = refuses (command 0 simple 0 1) 2 ∷ [];
     }
 
 -- the event is bad, and the nexus is 8
 abbrev pub lowestIs3 : Case
-lowestIs3 = from (clear 0x00) (refuses 0x54_56_01_08_00_04_00_01 3 ∷ [])
+lowestIs3 = from (clear 0x00) (refuses (command 8 simple 4 1) 3 ∷ [])
 
 -- "nexus above 7", whatever the event: it comes before "no such task" (5), "function rejected" (8) and the checks of a command
 abbrev pub lowestIs4 : Case
 lowestIs4 =
     from (clear 0x00)
-    (refuses 0x54_56_02_08_00_00_00_01 4
-    ∷ refuses 0x54_56_03_08_09_00_00_00 4
-    ∷ refuses 0x54_56_03_08_05_00_00_00 4
-    ∷ refuses 0x54_56_04_08_03_00_00_00 4
-    ∷ refuses 0x54_56_01_FF_03_00_00_01 4
+    (refuses (completion 8 0x00 1) 4
+    ∷ refuses (management 8 9 0) 4
+    ∷ refuses (management 8 5 0) 4
+    ∷ refuses (condition 8 3) 4
+    ∷ refuses (command 0xFF 3 0 1) 4
     ∷ [])
 
 -- "Unknown function: 8"; DECISIONS, "Bytes and answers": "the tag is free for ABORT TASK and for unknown ones, function 0 is unknown". The
 -- report is zeros, the table the same.
 abbrev pub rejected : Case
 rejected =
-    from (table 0x54_48_01_00_01_00_00_00 quiet (0x54_54_02_00_02_00_00_01 ∷ []))
-    (keeps 0x54_56_03_02_00_00_00_01 (line 8 0 0 0 0 0)
-    ∷ keeps 0x54_56_03_02_06_00_12_34 (line 8 0 0 0 0 0)
-    ∷ keeps 0x54_56_03_02_FF_00_00_00 (line 8 0 0 0 0 0)
+    from (table (header 0x00 1 0 0) quiet (task 2 simple enabled 0 1 ∷ []))
+    (keeps (management 2 0 1) (line 8 0 0 0 0 0)
+    ∷ keeps (management 2 6 0x1234) (line 8 0 0 0 0 0)
+    ∷ keeps (management 2 0xFF 0) (line 8 0 0 0 0 0)
     ∷ [])
 
 -- "Starting a table looks at length (1), then policy (9)": "10b is bad", "the rest 0"
 abbrev pub starting : Case
 starting =
-    from (junk 584)
+    from (junk tableLength)
     (start 0x02 9 same
     ∷ start 0x06 9 same
     ∷ start 0x08 9 same
     ∷ start 0xFF 9 same
-    ∷ start 0x01 0 (now (table 0x54_48_01_01_00_00_00_00 (bits 1 1 1 1 1 1 1 1) []))
-    ∷ start 0x03 0 (now (table 0x54_48_01_03_00_00_00_00 (bits 1 1 1 1 1 1 1 1) []))
-    ∷ start 0x04 0 (now (table 0x54_48_01_04_00_00_00_00 (bits 1 1 1 1 1 1 1 1) []))
-    ∷ start 0x05 0 (now (table 0x54_48_01_05_00_00_00_00 (bits 1 1 1 1 1 1 1 1) []))
-    ∷ start 0x07 0 (now (table 0x54_48_01_07_00_00_00_00 (bits 1 1 1 1 1 1 1 1) []))
+    ∷ start 0x01 0 (now (table (header 0x01 0 0 0) (bits 1 1 1 1 1 1 1 1) []))
+    ∷ start 0x03 0 (now (table (header 0x03 0 0 0) (bits 1 1 1 1 1 1 1 1) []))
+    ∷ start 0x04 0 (now (table (header 0x04 0 0 0) (bits 1 1 1 1 1 1 1 1) []))
+    ∷ start 0x05 0 (now (table (header 0x05 0 0 0) (bits 1 1 1 1 1 1 1 1) []))
+    ∷ start 0x07 0 (now (table (header 0x07 0 0 0) (bits 1 1 1 1 1 1 1 1) []))
     ∷ start 0x02 9 same
-    ∷ lend (junk 583)
+    ∷ lend (junk (tableLength - 1))
     ∷ start 0x00 1 same
     ∷ start 0x02 1 same
-    ∷ lend (junk 585)
+    ∷ lend (junk (tableLength + 1))
     ∷ start 0x00 1 same
     ∷ [])
 
 -- "naming looks at the table (1)"; "0 with nothing"; "under nothing and under 1 nexus and tag are 0"
 abbrev pub naming : Case
 naming =
-    from (junk 584)
+    from (junk tableLength)
     (name noTable
-    ∷ lend (take 583 (clear 0x00))
+    ∷ lend (shorter (clear 0x00))
     ∷ name noTable
     ∷ lend (clear 0x00)
     ∷ name nothing
@@ -90,103 +93,98 @@ naming =
 
 abbrev eachBad : List (List ℕ) → List Move
 eachBad [] = []
-eachBad (t ∷ ts) = lend t ∷ refuses 0x54_56_01_00_00_00_00_01 1 ∷ name noTable ∷ eachBad ts
+eachBad (t ∷ ts) = lend t ∷ refuses (command 0 simple 0 1) 1 ∷ name noTable ∷ eachBad ts
 
--- "bad table (not 584 bytes or not well formed)": the length, the header, the nexus records
+-- "bad table (not 584 bytes or not well formed)": the length; the header; of the nexus records a pending bit that is none, the numbers of nexus 0 and
+-- 1 exchanged, and a last byte that is not 0
 abbrev pub badHeads : Case
 badHeads =
-    from (junk 584)
+    from (junk tableLength)
     (eachBad
-    (take 583 (clear 0x00)
-    ∷ (clear 0x00 ++ 0 ∷ [])
+    (shorter (clear 0x00)
+    ∷ longer (clear 0x00)
     ∷ []
-    ∷ table 0x55_48_01_00_00_00_00_00 quiet []
-    ∷ table 0x54_4E_01_00_00_00_00_00 quiet []
-    ∷ table 0x54_48_02_00_00_00_00_00 quiet []
-    ∷ table 0x54_48_01_02_00_00_00_00 quiet []
-    ∷ table 0x54_48_01_08_00_00_00_00 quiet []
-    ∷ table 0x54_48_01_00_41_00_00_00 quiet []
-    ∷ table 0x54_48_01_00_00_09_00_00 quiet []
-    ∷ table 0x54_48_01_00_00_00_05_00 quiet []
-    ∷ table 0x54_48_01_00_00_00_00_01 quiet []
-    ∷ table 0x54_48_01_00_00_00_00_00 (bits 0 0 0 0 0 0 0 0x20) []
-    ∷ table 0x54_48_01_00_00_00_00_00
-    (strung
-    (0x54_4E_01_00_00_00_00_00 ∷ 0x54_4E_00_00_00_00_00_00 ∷ 0x54_4E_02_00_00_00_00_00 ∷ 0x54_4E_03_00_00_00_00_00
-    ∷ 0x54_4E_04_00_00_00_00_00 ∷ 0x54_4E_05_00_00_00_00_00 ∷ 0x54_4E_06_00_00_00_00_00 ∷ 0x54_4E_07_00_00_00_00_00 ∷ [])) []
-    ∷ table 0x54_48_01_00_00_00_00_00
-    (strung
-    (0x54_4E_00_00_00_00_00_01 ∷ 0x54_4E_01_00_00_00_00_00 ∷ 0x54_4E_02_00_00_00_00_00 ∷ 0x54_4E_03_00_00_00_00_00
-    ∷ 0x54_4E_04_00_00_00_00_00 ∷ 0x54_4E_05_00_00_00_00_00 ∷ 0x54_4E_06_00_00_00_00_00 ∷ 0x54_4E_07_00_00_00_00_00 ∷ [])) []
+    ∷ table (changed 0 0x55 (header 0x00 0 0 0)) quiet []
+    ∷ table (changed 1 0x4E (header 0x00 0 0 0)) quiet []
+    ∷ table (changed 2 2 (header 0x00 0 0 0)) quiet []
+    ∷ table (header 0x02 0 0 0) quiet []
+    ∷ table (header 0x08 0 0 0) quiet []
+    ∷ table (header 0x00 65 0 0) quiet []
+    ∷ table (header 0x00 0 9 0) quiet []
+    ∷ table (header 0x00 0 0 5) quiet []
+    ∷ table (changed 7 1 (header 0x00 0 0 0)) quiet []
+    ∷ table (header 0x00 0 0 0) (bits 0 0 0 0 0 0 0 0x20) []
+    ∷ changed (nexusAt 0 + 2) 1 (changed (nexusAt 1 + 2) 0 (clear 0x00))
+    ∷ changed (nexusAt 0 + 7) 1 (clear 0x00)
     ∷ []))
 
 -- the task records: mark, nexus, attribute, state, control; attribute and state in an ACA too; an unused one that is counted, a used one that is
 -- not, one after a gap; two tasks that share nexus and tag
 abbrev pub badTasks : Case
 badTasks =
-    from (junk 584)
+    from (junk tableLength)
     (eachBad
-    (table 0x54_48_01_00_01_00_00_00 quiet (0x54_45_00_00_02_00_00_01 ∷ [])
-    ∷ table 0x54_48_01_00_01_00_00_00 quiet (0x54_54_08_00_02_00_00_01 ∷ [])
-    ∷ table 0x54_48_01_00_01_00_00_00 quiet (0x54_54_00_03_02_00_00_01 ∷ [])
-    ∷ table 0x54_48_01_00_01_00_00_00 quiet (0x54_54_00_00_00_00_00_01 ∷ [])
-    ∷ table 0x54_48_01_00_01_00_00_00 quiet (0x54_54_00_00_04_00_00_01 ∷ [])
-    ∷ table 0x54_48_01_00_01_00_00_00 quiet (0x54_54_00_00_02_02_00_01 ∷ [])
-    ∷ table 0x54_48_01_00_01_01_00_00 quiet (0x54_54_00_03_02_00_00_01 ∷ [])
-    ∷ table 0x54_48_01_00_01_01_00_00 quiet (0x54_54_01_00_00_00_00_01 ∷ [])
-    ∷ table 0x54_48_01_00_01_01_00_00 quiet (0x54_54_01_00_04_00_00_01 ∷ [])
-    ∷ table 0x54_48_01_00_01_00_00_00 quiet []
-    ∷ table 0x54_48_01_00_00_00_00_00 quiet (0x54_54_00_00_02_00_00_01 ∷ [])
-    ∷ table 0x54_48_01_00_00_00_00_00 quiet (0x54_54_00_00_00_00_00_01 ∷ [])
-    ∷ table 0x54_48_01_00_00_00_00_00 quiet (0x00_00_00_00_00_00_00_00 ∷ [])
-    ∷ table 0x54_48_01_00_01_00_00_00 quiet (0x54_54_00_00_00_00_00_00 ∷ 0x54_54_00_00_02_00_00_01 ∷ [])
-    ∷ table 0x54_48_01_00_02_00_00_00 quiet (0x54_54_00_00_02_00_00_01 ∷ 0x54_54_00_00_02_01_00_01 ∷ [])
+    (table (header 0x00 1 0 0) quiet (changed 1 0x45 (task 0 simple enabled 0 1) ∷ [])
+    ∷ table (header 0x00 1 0 0) quiet (task 8 simple enabled 0 1 ∷ [])
+    ∷ table (header 0x00 1 0 0) quiet (task 0 3 enabled 0 1 ∷ [])
+    ∷ table (header 0x00 1 0 0) quiet (task 0 simple 0 0 1 ∷ [])
+    ∷ table (header 0x00 1 0 0) quiet (task 0 simple 4 0 1 ∷ [])
+    ∷ table (header 0x00 1 0 0) quiet (task 0 simple enabled 2 1 ∷ [])
+    ∷ table (header 0x00 1 1 0) quiet (task 0 3 enabled 0 1 ∷ [])
+    ∷ table (header 0x00 1 1 0) quiet (task 1 simple 0 0 1 ∷ [])
+    ∷ table (header 0x00 1 1 0) quiet (task 1 simple 4 0 1 ∷ [])
+    ∷ table (header 0x00 1 0 0) quiet []
+    ∷ table (header 0x00 0 0 0) quiet (task 0 simple enabled 0 1 ∷ [])
+    ∷ table (header 0x00 0 0 0) quiet (changed (taskWidth - 1) 1 unused ∷ [])
+    ∷ table (header 0x00 0 0 0) quiet (zeros taskWidth ∷ [])
+    ∷ table (header 0x00 1 0 0) quiet (unused ∷ task 0 simple enabled 0 1 ∷ [])
+    ∷ table (header 0x00 2 0 0) quiet (task 0 simple enabled 0 1 ∷ task 0 simple enabled 1 1 ∷ [])
     ∷ []))
 
 -- "without ACA: no task is blocked or has attribute ACA, and a task is enabled exactly if it is eligible, else dormant"
 abbrev pub badWithoutAca : Case
 badWithoutAca =
-    from (junk 584)
+    from (junk tableLength)
     (eachBad
-    (table 0x54_48_01_00_01_00_00_00 quiet (0x54_54_00_00_03_00_00_01 ∷ [])
-    ∷ table 0x54_48_01_00_01_00_00_00 quiet (0x54_54_00_04_02_00_00_01 ∷ [])
-    ∷ table 0x54_48_01_00_01_00_00_00 quiet (0x54_54_00_00_01_00_00_01 ∷ [])
-    ∷ table 0x54_48_01_00_02_00_00_00 quiet (0x54_54_00_02_02_00_00_01 ∷ 0x54_54_01_00_02_00_00_01 ∷ [])
-    ∷ table 0x54_48_01_00_02_00_00_00 quiet (0x54_54_00_00_02_00_00_01 ∷ 0x54_54_01_02_02_00_00_01 ∷ [])
-    ∷ table 0x54_48_01_00_02_00_00_00 quiet (0x54_54_00_01_02_00_00_01 ∷ 0x54_54_01_00_02_00_00_01 ∷ [])
-    ∷ table 0x54_48_01_00_02_00_00_00 quiet (0x54_54_00_00_02_00_00_01 ∷ 0x54_54_01_01_01_00_00_01 ∷ [])
+    (table (header 0x00 1 0 0) quiet (task 0 simple blocked 0 1 ∷ [])
+    ∷ table (header 0x00 1 0 0) quiet (task 0 aca enabled 0 1 ∷ [])
+    ∷ table (header 0x00 1 0 0) quiet (task 0 simple dormant 0 1 ∷ [])
+    ∷ table (header 0x00 2 0 0) quiet (task 0 ordered enabled 0 1 ∷ task 1 simple enabled 0 1 ∷ [])
+    ∷ table (header 0x00 2 0 0) quiet (task 0 simple enabled 0 1 ∷ task 1 ordered enabled 0 1 ∷ [])
+    ∷ table (header 0x00 2 0 0) quiet (task 0 headOfQueue enabled 0 1 ∷ task 1 simple enabled 0 1 ∷ [])
+    ∷ table (header 0x00 2 0 0) quiet (task 0 simple enabled 0 1 ∷ task 1 headOfQueue dormant 0 1 ∷ [])
     ∷ []))
 
 -- "with ACA: at most one task has attribute ACA; it is the youngest, enabled, of the faulted nexus. Every other task is dormant or blocked; a
 -- blocked one is eligible; a HEAD OF QUEUE one is blocked."
 abbrev pub badInAca : Case
 badInAca =
-    from (junk 584)
+    from (junk tableLength)
     (eachBad
-    (table 0x54_48_01_00_02_01_00_00 quiet (0x54_54_00_04_02_00_00_01 ∷ 0x54_54_00_04_02_00_00_02 ∷ [])
-    ∷ table 0x54_48_01_00_02_01_00_00 quiet (0x54_54_00_04_02_00_00_01 ∷ 0x54_54_01_00_01_00_00_01 ∷ [])
-    ∷ table 0x54_48_01_00_01_01_00_00 quiet (0x54_54_00_04_01_00_00_01 ∷ [])
-    ∷ table 0x54_48_01_00_01_01_00_00 quiet (0x54_54_00_04_03_00_00_01 ∷ [])
-    ∷ table 0x54_48_01_00_01_01_00_00 quiet (0x54_54_01_04_02_00_00_01 ∷ [])
-    ∷ table 0x54_48_01_00_01_01_00_00 quiet (0x54_54_01_00_02_00_00_01 ∷ [])
-    ∷ table 0x54_48_01_00_02_01_00_00 quiet (0x54_54_01_02_03_00_00_01 ∷ 0x54_54_02_00_03_00_00_01 ∷ [])
-    ∷ table 0x54_48_01_00_02_01_00_00 quiet (0x54_54_01_00_03_00_00_01 ∷ 0x54_54_02_02_03_00_00_01 ∷ [])
-    ∷ table 0x54_48_01_00_01_01_00_00 quiet (0x54_54_01_01_01_00_00_01 ∷ [])
+    (table (header 0x00 2 1 0) quiet (task 0 aca enabled 0 1 ∷ task 0 aca enabled 0 2 ∷ [])
+    ∷ table (header 0x00 2 1 0) quiet (task 0 aca enabled 0 1 ∷ task 1 simple dormant 0 1 ∷ [])
+    ∷ table (header 0x00 1 1 0) quiet (task 0 aca dormant 0 1 ∷ [])
+    ∷ table (header 0x00 1 1 0) quiet (task 0 aca blocked 0 1 ∷ [])
+    ∷ table (header 0x00 1 1 0) quiet (task 1 aca enabled 0 1 ∷ [])
+    ∷ table (header 0x00 1 1 0) quiet (task 1 simple enabled 0 1 ∷ [])
+    ∷ table (header 0x00 2 1 0) quiet (task 1 ordered blocked 0 1 ∷ task 2 simple blocked 0 1 ∷ [])
+    ∷ table (header 0x00 2 1 0) quiet (task 1 simple blocked 0 1 ∷ task 2 ordered blocked 0 1 ∷ [])
+    ∷ table (header 0x00 1 1 0) quiet (task 1 headOfQueue dormant 0 1 ∷ [])
     ∷ []))
 
 -- DECISIONS, "Bytes and answers": "Well formed but unreachable tables are accepted": run 4 over an empty table, an ACA of nexus 7 over an
 -- eligible dormant task, every pending bit at once
 abbrev pub unreachable : Case
 unreachable =
-    from (table 0x54_48_01_07_00_00_04_00 (bits 0x1F 0x1F 0x1F 0x1F 0x1F 0x1F 0x1F 0x1F) [])
+    from (table (header 0x07 0 0 4) (bits 0x1F 0x1F 0x1F 0x1F 0x1F 0x1F 0x1F 0x1F) [])
     (name nothing
-    ∷ refuses 0x54_56_02_00_00_00_00_01 5
-    ∷ lend (table 0x54_48_01_01_01_08_04_00 quiet (0x54_54_00_00_01_00_00_01 ∷ []))
+    ∷ refuses (completion 0 0x00 1) 5
+    ∷ lend (table (header 0x01 1 8 4) quiet (task 0 simple dormant 0 1 ∷ []))
     ∷ name nothing
-    ∷ refuses 0x54_56_02_00_00_00_00_01 6
+    ∷ refuses (completion 0 0x00 1) 6
     ∷ [])
 
-abbrev eachBadEvent : List ℕ → List Move
+abbrev eachBadEvent : List (List ℕ) → List Move
 eachBadEvent [] = []
 eachBadEvent (e ∷ es) = refuses e 3 ∷ eachBadEvent es
 
@@ -194,37 +192,37 @@ eachBadEvent (e ∷ es) = refuses e 3 ∷ eachBadEvent es
 -- of functions 2 to 5; a CONDITION's first, second and tag, and the nexus of power on and hard reset (DECISIONS: "also above 7")
 abbrev pub badEvents : Case
 badEvents =
-    from (table 0x54_48_01_00_01_00_00_00 quiet (0x54_54_00_00_02_00_00_01 ∷ []))
+    from (table (header 0x00 1 0 0) quiet (task 0 simple enabled 0 1 ∷ []))
     (eachBadEvent
-    (0x54_54_01_00_00_00_00_01
-    ∷ 0x56_54_01_00_00_00_00_01
-    ∷ 0x54_56_00_00_00_00_00_01
-    ∷ 0x54_56_05_00_00_00_00_01
-    ∷ 0x54_56_01_00_00_04_00_02
-    ∷ 0x54_56_01_00_00_80_00_02
-    ∷ 0x54_56_02_00_01_00_00_01
-    ∷ 0x54_56_02_00_08_00_00_01
-    ∷ 0x54_56_02_00_00_01_00_01
-    ∷ 0x54_56_03_00_01_01_00_01
-    ∷ 0x54_56_03_00_09_01_00_00
-    ∷ 0x54_56_03_00_02_00_00_01
-    ∷ 0x54_56_03_00_03_00_01_00
-    ∷ 0x54_56_03_00_04_00_00_01
-    ∷ 0x54_56_03_00_05_00_00_01
-    ∷ 0x54_56_04_00_00_00_00_00
-    ∷ 0x54_56_04_00_04_00_00_00
-    ∷ 0x54_56_04_00_03_01_00_00
-    ∷ 0x54_56_04_00_03_00_00_01
-    ∷ 0x54_56_04_01_01_00_00_00
-    ∷ 0x54_56_04_07_02_00_00_00
-    ∷ 0x54_56_04_08_01_00_00_00
+    (changed 1 0x54 (command 0 simple 0 1)
+    ∷ changed 0 0x56 (changed 1 0x54 (command 0 simple 0 1))
+    ∷ event 0 0 0 0 1
+    ∷ event 5 0 0 0 1
+    ∷ command 0 simple 4 2
+    ∷ command 0 simple 0x80 2
+    ∷ completion 0 0x01 1
+    ∷ completion 0 0x08 1
+    ∷ event 2 0 0x00 1 1
+    ∷ event 3 0 1 1 1
+    ∷ event 3 0 9 1 0
+    ∷ management 0 2 1
+    ∷ management 0 3 0x0100
+    ∷ management 0 4 1
+    ∷ management 0 5 1
+    ∷ condition 0 0
+    ∷ condition 0 4
+    ∷ event 4 0 3 1 0
+    ∷ event 4 0 3 0 1
+    ∷ condition 1 1
+    ∷ condition 7 2
+    ∷ condition 8 1
     ∷ []))
 
 -- ".. as is a length other than 8"
 abbrev pub eventLengths : Case
 eventLengths =
     from (clear 0x00)
-    (apply [] (line 3 0 0 0 0 0) same same
-    ∷ apply (take 7 (octets 0x54_56_01_00_00_00_00_01)) (line 3 0 0 0 0 0) same same
-    ∷ apply (octets 0x54_56_01_00_00_00_00_01 ++ 0 ∷ []) (line 3 0 0 0 0 0) same same
+    (refuses [] 3
+    ∷ refuses (shorter (command 0 simple 0 1)) 3
+    ∷ refuses (longer (command 0 simple 0 1)) 3
     ∷ [])

@@ -1,37 +1,31 @@
 -- Where the cases begin, and what a tag is.
 use mathlib.Core.List.{[], _∷_}
-use Rattle.cases.specs.Play.{bits, quiet, table, clear, report, junk, line, turn, now, start, name, does, enters, Case, from}
+use Rattle.cases.specs.Makers.{tableLength, junk, simple, enabled, header, task, ended, command, completion, bits, quiet, table, clear, report}
+use Rattle.cases.specs.Shorthand.{line, turn, does, enters, from}
+use Rattle.cases.specs.Play.{now, start, name, Case}
 
 -- "Pending bits are clear": a fresh table after one command from each nexus, for "the highest rank is reported, .., and that bit is cleared"
 abbrev pub cleared : Case
 cleared =
-    from (junk 584)
-    (start 0x00 0 (now (table 0x54_48_01_00_00_00_00_00 (bits 1 1 1 1 1 1 1 1) []))
-    ∷ does 0x54_56_01_00_00_00_00_01 (line 7 0x02 0x06 0x29 0x00 0)
-    (table 0x54_48_01_00_00_00_00_00 (bits 0 1 1 1 1 1 1 1) []) (report [])
-    ∷ does 0x54_56_01_01_00_00_00_01 (line 7 0x02 0x06 0x29 0x00 0)
-    (table 0x54_48_01_00_00_00_00_00 (bits 0 0 1 1 1 1 1 1) []) (report [])
-    ∷ does 0x54_56_01_02_00_00_00_01 (line 7 0x02 0x06 0x29 0x00 0)
-    (table 0x54_48_01_00_00_00_00_00 (bits 0 0 0 1 1 1 1 1) []) (report [])
-    ∷ does 0x54_56_01_03_00_00_00_01 (line 7 0x02 0x06 0x29 0x00 0)
-    (table 0x54_48_01_00_00_00_00_00 (bits 0 0 0 0 1 1 1 1) []) (report [])
-    ∷ does 0x54_56_01_04_00_00_00_01 (line 7 0x02 0x06 0x29 0x00 0)
-    (table 0x54_48_01_00_00_00_00_00 (bits 0 0 0 0 0 1 1 1) []) (report [])
-    ∷ does 0x54_56_01_05_00_00_00_01 (line 7 0x02 0x06 0x29 0x00 0)
-    (table 0x54_48_01_00_00_00_00_00 (bits 0 0 0 0 0 0 1 1) []) (report [])
-    ∷ does 0x54_56_01_06_00_00_00_01 (line 7 0x02 0x06 0x29 0x00 0)
-    (table 0x54_48_01_00_00_00_00_00 (bits 0 0 0 0 0 0 0 1) []) (report [])
-    ∷ does 0x54_56_01_07_00_00_00_01 (line 7 0x02 0x06 0x29 0x00 0) (clear 0x00) (report [])
+    from (junk tableLength)
+    (start 0x00 0 (now (table (header 0x00 0 0 0) (bits 1 1 1 1 1 1 1 1) []))
+    ∷ does (command 0 simple 0 1) (line 7 0x02 0x06 0x29 0x00 0) (table (header 0x00 0 0 0) (bits 0 1 1 1 1 1 1 1) []) (report [])
+    ∷ does (command 1 simple 0 1) (line 7 0x02 0x06 0x29 0x00 0) (table (header 0x00 0 0 0) (bits 0 0 1 1 1 1 1 1) []) (report [])
+    ∷ does (command 2 simple 0 1) (line 7 0x02 0x06 0x29 0x00 0) (table (header 0x00 0 0 0) (bits 0 0 0 1 1 1 1 1) []) (report [])
+    ∷ does (command 3 simple 0 1) (line 7 0x02 0x06 0x29 0x00 0) (table (header 0x00 0 0 0) (bits 0 0 0 0 1 1 1 1) []) (report [])
+    ∷ does (command 4 simple 0 1) (line 7 0x02 0x06 0x29 0x00 0) (table (header 0x00 0 0 0) (bits 0 0 0 0 0 1 1 1) []) (report [])
+    ∷ does (command 5 simple 0 1) (line 7 0x02 0x06 0x29 0x00 0) (table (header 0x00 0 0 0) (bits 0 0 0 0 0 0 1 1) []) (report [])
+    ∷ does (command 6 simple 0 1) (line 7 0x02 0x06 0x29 0x00 0) (table (header 0x00 0 0 0) (bits 0 0 0 0 0 0 0 1) []) (report [])
+    ∷ does (command 7 simple 0 1) (line 7 0x02 0x06 0x29 0x00 0) (clear 0x00) (report [])
     ∷ [])
 
 -- "Tags are big-endian.": 1234h and 3412h are two tags
 abbrev pub tagBytes : Case
 tagBytes =
     from (clear 0x00)
-    (enters 0x54_56_01_02_00_00_12_34 (table 0x54_48_01_00_01_00_00_00 quiet (0x54_54_02_00_02_00_12_34 ∷ []))
-    ∷ enters 0x54_56_01_02_00_00_34_12
-    (table 0x54_48_01_00_02_00_00_00 quiet (0x54_54_02_00_02_00_12_34 ∷ 0x54_54_02_00_02_00_34_12 ∷ []))
+    (enters (command 2 simple 0 0x1234) (table (header 0x00 1 0 0) quiet (task 2 simple enabled 0 0x1234 ∷ []))
+    ∷ enters (command 2 simple 0 0x3412) (table (header 0x00 2 0 0) quiet (task 2 simple enabled 0 0x1234 ∷ task 2 simple enabled 0 0x3412 ∷ []))
     ∷ name (turn 2 0x1234)
-    ∷ does 0x54_56_02_02_00_00_34_12 (line 0 0 0 0 0 1)
-    (table 0x54_48_01_00_01_00_00_00 quiet (0x54_54_02_00_02_00_12_34 ∷ [])) (report (0x54_45_02_00_00_00_34_12 ∷ []))
+    ∷ does (completion 2 0x00 0x3412) (line 0 0 0 0 0 1)
+    (table (header 0x00 1 0 0) quiet (task 2 simple enabled 0 0x1234 ∷ [])) (report (ended 2 0x00 0x3412 ∷ []))
     ∷ [])

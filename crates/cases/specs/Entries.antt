@@ -1,6 +1,8 @@
 -- Document 01, "Entry of a command, checks in order".
 use mathlib.Core.List.{[], _∷_}
-use Rattle.cases.specs.Play.{bits, quiet, table, report, line, lend, does, enters, keeps, Case, from}
+use Rattle.cases.specs.Makers.{simple, headOfQueue, ordered, aca, dormant, enabled, blocked, header, task, ended, command, bits, quiet, table, report}
+use Rattle.cases.specs.Shorthand.{line, does, enters, keeps, from}
+use Rattle.cases.specs.Play.{lend, Case}
 
 -- DECISIONS: "Check 1 (overlapped) comes before everything, exempt or not, from any nexus, and during an ACA. .. the ACA task included; the ACA
 -- stays; no pending bit is taken." In an ACA of nexus 0: a command of nexus 1 with a bad attribute and a bit pending, one of the faulted nexus
@@ -8,102 +10,90 @@ use Rattle.cases.specs.Play.{bits, quiet, table, report, line, lend, doe
 abbrev pub overlapFirst : Case
 overlapFirst =
     from
-    (table 0x54_48_01_00_04_01_00_00 (bits 0 0x10 0 0 0 0 0 0)
-    (0x54_54_01_00_03_00_00_01 ∷ 0x54_54_02_00_03_00_00_01 ∷ 0x54_54_01_02_01_00_00_02 ∷ 0x54_54_00_04_02_00_00_09 ∷ []))
-    (does 0x54_56_01_01_03_00_00_01 (line 7 0x02 0x0B 0x4E 0x00 2)
-    (table 0x54_48_01_00_02_01_00_00 (bits 0 0x10 0 0 0 0 0 0) (0x54_54_02_00_03_00_00_01 ∷ 0x54_54_00_04_02_00_00_09 ∷ []))
-    (report (0x54_45_01_FF_00_00_00_01 ∷ 0x54_45_01_FF_00_00_00_02 ∷ []))
-    ∷ does 0x54_56_01_00_04_00_00_09 (line 7 0x02 0x0B 0x4E 0x00 1)
-    (table 0x54_48_01_00_01_01_00_00 (bits 0 0x10 0 0 0 0 0 0) (0x54_54_02_00_03_00_00_01 ∷ []))
-    (report (0x54_45_00_FF_00_00_00_09 ∷ []))
-    ∷ does 0x54_56_01_02_00_02_00_01 (line 7 0x02 0x0B 0x4E 0x00 1)
-    (table 0x54_48_01_00_00_01_00_00 (bits 0 0x10 0 0 0 0 0 0) []) (report (0x54_45_02_FF_00_00_00_01 ∷ []))
+    (table (header 0x00 4 1 0) (bits 0 0x10 0 0 0 0 0 0)
+    (task 1 simple blocked 0 1 ∷ task 2 simple blocked 0 1 ∷ task 1 ordered dormant 0 2 ∷ task 0 aca enabled 0 9 ∷ []))
+    (does (command 1 3 0 1) (line 7 0x02 0x0B 0x4E 0x00 2)
+    (table (header 0x00 2 1 0) (bits 0 0x10 0 0 0 0 0 0) (task 2 simple blocked 0 1 ∷ task 0 aca enabled 0 9 ∷ []))
+    (report (ended 1 0xFF 1 ∷ ended 1 0xFF 2 ∷ []))
+    ∷ does (command 0 aca 0 9) (line 7 0x02 0x0B 0x4E 0x00 1)
+    (table (header 0x00 1 1 0) (bits 0 0x10 0 0 0 0 0 0) (task 2 simple blocked 0 1 ∷ [])) (report (ended 0 0xFF 9 ∷ []))
+    ∷ does (command 2 simple 2 1) (line 7 0x02 0x0B 0x4E 0x00 1)
+    (table (header 0x00 0 1 0) (bits 0 0x10 0 0 0 0 0 0) []) (report (ended 2 0xFF 1 ∷ []))
     ∷ [])
 
 -- DECISIONS: "States are brought up to date under answer 7 as well.": 1.1 S was dormant behind 0.1 O. "The refused command has no ended record".
 abbrev pub overlapSettles : Case
 overlapSettles =
-    from
-    (table 0x54_48_01_00_03_00_00_00 quiet
-    (0x54_54_00_02_02_00_00_01 ∷ 0x54_54_01_00_01_00_00_01 ∷ 0x54_54_00_00_01_00_00_02 ∷ []))
-    (does 0x54_56_01_00_00_00_00_02 (line 7 0x02 0x0B 0x4E 0x00 2)
-    (table 0x54_48_01_00_01_00_00_00 quiet (0x54_54_01_00_02_00_00_01 ∷ []))
-    (report (0x54_45_00_FF_00_00_00_01 ∷ 0x54_45_00_FF_00_00_00_02 ∷ []))
+    from (table (header 0x00 3 0 0) quiet (task 0 ordered enabled 0 1 ∷ task 1 simple dormant 0 1 ∷ task 0 simple dormant 0 2 ∷ []))
+    (does (command 0 simple 0 2) (line 7 0x02 0x0B 0x4E 0x00 2)
+    (table (header 0x00 1 0 0) quiet (task 1 simple enabled 0 1 ∷ [])) (report (ended 0 0xFF 1 ∷ ended 0 0xFF 2 ∷ []))
     ∷ [])
 
 -- "A command ended at entry neither sets up an ACA nor applies QERR.": QERR 01b and NACA 1; 1.1 stays. The attribute is "any byte": 03h, FFh.
 abbrev pub entrySetsUpNoAca : Case
 entrySetsUpNoAca =
-    from
-    (table 0x54_48_01_01_02_00_00_00 quiet (0x54_54_00_00_02_00_00_01 ∷ 0x54_54_01_00_02_00_00_01 ∷ []))
-    (keeps 0x54_56_01_02_03_01_00_01 (line 7 0x02 0x05 0x49 0x00 0)
-    ∷ keeps 0x54_56_01_02_FF_01_00_01 (line 7 0x02 0x05 0x49 0x00 0)
-    ∷ does 0x54_56_01_00_00_01_00_01 (line 7 0x02 0x0B 0x4E 0x00 1)
-    (table 0x54_48_01_01_01_00_00_00 quiet (0x54_54_01_00_02_00_00_01 ∷ [])) (report (0x54_45_00_FF_00_00_00_01 ∷ []))
+    from (table (header 0x01 2 0 0) quiet (task 0 simple enabled 0 1 ∷ task 1 simple enabled 0 1 ∷ []))
+    (keeps (command 2 3 1 1) (line 7 0x02 0x05 0x49 0x00 0)
+    ∷ keeps (command 2 0xFF 1 1) (line 7 0x02 0x05 0x49 0x00 0)
+    ∷ does (command 0 simple 1 1) (line 7 0x02 0x0B 0x4E 0x00 1)
+    (table (header 0x01 1 0 0) quiet (task 1 simple enabled 0 1 ∷ [])) (report (ended 0 0xFF 1 ∷ []))
     ∷ [])
 
 -- DECISIONS: "Exempt skips check 3 and nothing else, and is not stored in the task." The bit stays; of the second byte NACA alone is in the
 -- control byte; check 4 and, in an ACA, check 2 hold.
 abbrev pub exempt : Case
 exempt =
-    from (table 0x54_48_01_00_00_00_00_00 (bits 0 0 0 1 0 0 0 0) [])
-    (enters 0x54_56_01_03_00_03_00_01 (table 0x54_48_01_00_01_00_00_00 (bits 0 0 0 1 0 0 0 0) (0x54_54_03_00_02_01_00_01 ∷ []))
-    ∷ keeps 0x54_56_01_03_03_02_00_02 (line 7 0x02 0x05 0x49 0x00 0)
-    ∷ keeps 0x54_56_01_03_04_02_00_02 (line 7 0x02 0x05 0x49 0x00 0)
-    ∷ lend (table 0x54_48_01_00_00_01_00_00 (bits 0 0 0 1 0 0 0 0) [])
-    ∷ keeps 0x54_56_01_03_00_02_00_01 (line 7 0x08 0 0 0 0)
-    ∷ keeps 0x54_56_01_03_00_03_00_01 (line 7 0x30 0 0 0 0)
-    ∷ keeps 0x54_56_01_00_00_02_00_01 (line 7 0x30 0 0 0 0)
+    from (table (header 0x00 0 0 0) (bits 0 0 0 1 0 0 0 0) [])
+    (enters (command 3 simple 3 1) (table (header 0x00 1 0 0) (bits 0 0 0 1 0 0 0 0) (task 3 simple enabled 1 1 ∷ []))
+    ∷ keeps (command 3 3 2 2) (line 7 0x02 0x05 0x49 0x00 0)
+    ∷ keeps (command 3 aca 2 2) (line 7 0x02 0x05 0x49 0x00 0)
+    ∷ lend (table (header 0x00 0 1 0) (bits 0 0 0 1 0 0 0 0) [])
+    ∷ keeps (command 3 simple 2 1) (line 7 0x08 0 0 0 0)
+    ∷ keeps (command 3 simple 3 1) (line 7 0x30 0 0 0 0)
+    ∷ keeps (command 0 simple 2 1) (line 7 0x30 0 0 0 0)
     ∷ [])
 
 -- DECISIONS: "Attribute ACA from a nexus that is not the faulted one follows the NACA rule (08h or 30h). .. An attribute byte that is none of the
 -- four gets 30h or 08h from check 2 in an ACA"
 abbrev pub attributesInAca : Case
 attributesInAca =
-    from (table 0x54_48_01_00_00_01_00_00 quiet [])
-    (keeps 0x54_56_01_01_04_00_00_01 (line 7 0x08 0 0 0 0)
-    ∷ keeps 0x54_56_01_01_04_01_00_01 (line 7 0x30 0 0 0 0)
-    ∷ keeps 0x54_56_01_01_03_00_00_01 (line 7 0x08 0 0 0 0)
-    ∷ keeps 0x54_56_01_01_03_01_00_01 (line 7 0x30 0 0 0 0)
-    ∷ keeps 0x54_56_01_00_03_00_00_01 (line 7 0x30 0 0 0 0)
-    ∷ keeps 0x54_56_01_00_01_00_00_01 (line 7 0x30 0 0 0 0)
+    from (table (header 0x00 0 1 0) quiet [])
+    (keeps (command 1 aca 0 1) (line 7 0x08 0 0 0 0)
+    ∷ keeps (command 1 aca 1 1) (line 7 0x30 0 0 0 0)
+    ∷ keeps (command 1 3 0 1) (line 7 0x08 0 0 0 0)
+    ∷ keeps (command 1 3 1 1) (line 7 0x30 0 0 0 0)
+    ∷ keeps (command 0 3 0 1) (line 7 0x30 0 0 0 0)
+    ∷ keeps (command 0 headOfQueue 0 1) (line 7 0x30 0 0 0 0)
     ∷ [])
 
 -- "Pending bits, highest rank first", and DECISIONS: "one bit a command, the lowest bit number first, the others stay"
 abbrev pub ranks : Case
 ranks =
-    from (table 0x54_48_01_00_00_00_00_00 (bits 0 0 0 0 0x1F 0x1F 0 0) [])
-    (does 0x54_56_01_04_00_00_00_01 (line 7 0x02 0x06 0x29 0x00 0)
-    (table 0x54_48_01_00_00_00_00_00 (bits 0 0 0 0 0x1E 0x1F 0 0) []) (report [])
-    ∷ does 0x54_56_01_04_00_00_00_01 (line 7 0x02 0x06 0x29 0x02 0)
-    (table 0x54_48_01_00_00_00_00_00 (bits 0 0 0 0 0x1C 0x1F 0 0) []) (report [])
-    ∷ does 0x54_56_01_04_00_00_00_01 (line 7 0x02 0x06 0x29 0x03 0)
-    (table 0x54_48_01_00_00_00_00_00 (bits 0 0 0 0 0x18 0x1F 0 0) []) (report [])
-    ∷ does 0x54_56_01_04_00_00_00_01 (line 7 0x02 0x06 0x29 0x07 0)
-    (table 0x54_48_01_00_00_00_00_00 (bits 0 0 0 0 0x10 0x1F 0 0) []) (report [])
-    ∷ does 0x54_56_01_04_00_00_00_01 (line 7 0x02 0x06 0x2F 0x00 0)
-    (table 0x54_48_01_00_00_00_00_00 (bits 0 0 0 0 0 0x1F 0 0) []) (report [])
-    ∷ enters 0x54_56_01_04_00_00_00_01 (table 0x54_48_01_00_01_00_00_00 (bits 0 0 0 0 0 0x1F 0 0) (0x54_54_04_00_02_00_00_01 ∷ []))
+    from (table (header 0x00 0 0 0) (bits 0 0 0 0 0x1F 0x1F 0 0) [])
+    (does (command 4 simple 0 1) (line 7 0x02 0x06 0x29 0x00 0) (table (header 0x00 0 0 0) (bits 0 0 0 0 0x1E 0x1F 0 0) []) (report [])
+    ∷ does (command 4 simple 0 1) (line 7 0x02 0x06 0x29 0x02 0) (table (header 0x00 0 0 0) (bits 0 0 0 0 0x1C 0x1F 0 0) []) (report [])
+    ∷ does (command 4 simple 0 1) (line 7 0x02 0x06 0x29 0x03 0) (table (header 0x00 0 0 0) (bits 0 0 0 0 0x18 0x1F 0 0) []) (report [])
+    ∷ does (command 4 simple 0 1) (line 7 0x02 0x06 0x29 0x07 0) (table (header 0x00 0 0 0) (bits 0 0 0 0 0x10 0x1F 0 0) []) (report [])
+    ∷ does (command 4 simple 0 1) (line 7 0x02 0x06 0x2F 0x00 0) (table (header 0x00 0 0 0) (bits 0 0 0 0 0 0x1F 0 0) []) (report [])
+    ∷ enters (command 4 simple 0 1) (table (header 0x00 1 0 0) (bits 0 0 0 0 0 0x1F 0 0) (task 4 simple enabled 0 1 ∷ []))
     ∷ [])
 
 -- DECISIONS: "Check 3 holds for an ACA command of the faulted nexus too"; the ACA stays. "A command stopped at check 1 or 2 takes no bit": that of
 -- nexus 1.
 abbrev pub bitsInAca : Case
 bitsInAca =
-    from (table 0x54_48_01_00_00_01_00_00 (bits 0x14 0x08 0 0 0 0 0 0) [])
-    (keeps 0x54_56_01_01_00_00_00_01 (line 7 0x08 0 0 0 0)
-    ∷ keeps 0x54_56_01_00_00_00_00_01 (line 7 0x30 0 0 0 0)
-    ∷ does 0x54_56_01_00_04_00_00_01 (line 7 0x02 0x06 0x29 0x03 0)
-    (table 0x54_48_01_00_00_01_00_00 (bits 0x10 0x08 0 0 0 0 0 0) []) (report [])
-    ∷ does 0x54_56_01_00_04_00_00_01 (line 7 0x02 0x06 0x2F 0x00 0)
-    (table 0x54_48_01_00_00_01_00_00 (bits 0 0x08 0 0 0 0 0 0) []) (report [])
-    ∷ enters 0x54_56_01_00_04_00_00_01 (table 0x54_48_01_00_01_01_00_00 (bits 0 0x08 0 0 0 0 0 0) (0x54_54_00_04_02_00_00_01 ∷ []))
+    from (table (header 0x00 0 1 0) (bits 0x14 0x08 0 0 0 0 0 0) [])
+    (keeps (command 1 simple 0 1) (line 7 0x08 0 0 0 0)
+    ∷ keeps (command 0 simple 0 1) (line 7 0x30 0 0 0 0)
+    ∷ does (command 0 aca 0 1) (line 7 0x02 0x06 0x29 0x03 0) (table (header 0x00 0 1 0) (bits 0x10 0x08 0 0 0 0 0 0) []) (report [])
+    ∷ does (command 0 aca 0 1) (line 7 0x02 0x06 0x2F 0x00 0) (table (header 0x00 0 1 0) (bits 0 0x08 0 0 0 0 0 0) []) (report [])
+    ∷ enters (command 0 aca 0 1) (table (header 0x00 1 1 0) (bits 0 0x08 0 0 0 0 0 0) (task 0 aca enabled 0 1 ∷ []))
     ∷ [])
 
 -- DECISIONS: "one stopped at 4 or 5 would have met 3 first": a bad attribute with a bit pending
 abbrev pub bitsBeforeAttribute : Case
 bitsBeforeAttribute =
-    from (table 0x54_48_01_00_00_00_00_00 (bits 0 0 2 0 0 0 0 0) [])
-    (does 0x54_56_01_02_03_00_00_01 (line 7 0x02 0x06 0x29 0x02 0) (table 0x54_48_01_00_00_00_00_00 quiet []) (report [])
-    ∷ keeps 0x54_56_01_02_03_00_00_01 (line 7 0x02 0x05 0x49 0x00 0)
+    from (table (header 0x00 0 0 0) (bits 0 0 2 0 0 0 0 0) [])
+    (does (command 2 3 0 1) (line 7 0x02 0x06 0x29 0x02 0) (table (header 0x00 0 0 0) quiet []) (report [])
+    ∷ keeps (command 2 3 0 1) (line 7 0x02 0x05 0x49 0x00 0)
     ∷ [])

@@ -1,73 +1,64 @@
 -- Document 01, "Plausible errors": each error as a case that tells it from the rule.
 use mathlib.Core.List.{[], _∷_}
-use Rattle.cases.specs.Play.{bits, quiet, table, clear, report, line, turn, nothing, name, does, enters, keeps, refuses, Case, from}
+use Rattle.cases.specs.Makers.{simple, headOfQueue, ordered, aca, dormant, enabled, blocked}
+use Rattle.cases.specs.Makers.{header, task, ended, command, completion, management, bits, quiet, table, clear, report}
+use Rattle.cases.specs.Shorthand.{line, turn, nothing, does, enters, keeps, refuses, from}
+use Rattle.cases.specs.Play.{name, Case}
 
 -- "Enabling a dormant task because its older one ended in the event that set up the ACA.": 1.1 S behind 0.1 O stays dormant, has no turn,
 -- and can't complete
 abbrev pub dormantAsAcaBegins : Case
 dormantAsAcaBegins =
     from (clear 0x00)
-    (enters 0x54_56_01_00_02_01_00_01 (table 0x54_48_01_00_01_00_00_00 quiet (0x54_54_00_02_02_01_00_01 ∷ []))
-    ∷ enters 0x54_56_01_01_00_00_00_01
-    (table 0x54_48_01_00_02_00_00_00 quiet (0x54_54_00_02_02_01_00_01 ∷ 0x54_54_01_00_01_00_00_01 ∷ []))
-    ∷ does 0x54_56_02_00_02_00_00_01 (line 0 0 0 0 0 1)
-    (table 0x54_48_01_00_01_01_00_00 quiet (0x54_54_01_00_01_00_00_01 ∷ [])) (report (0x54_45_00_02_00_00_00_01 ∷ []))
+    (enters (command 0 ordered 1 1) (table (header 0x00 1 0 0) quiet (task 0 ordered enabled 1 1 ∷ []))
+    ∷ enters (command 1 simple 0 1) (table (header 0x00 2 0 0) quiet (task 0 ordered enabled 1 1 ∷ task 1 simple dormant 0 1 ∷ []))
+    ∷ does (completion 0 0x02 1) (line 0 0 0 0 0 1) (table (header 0x00 1 1 0) quiet (task 1 simple dormant 0 1 ∷ [])) (report (ended 0 0x02 1 ∷ []))
     ∷ name nothing
-    ∷ refuses 0x54_56_02_01_00_00_00_01 6
+    ∷ refuses (completion 1 0x00 1) 6
     ∷ [])
 
 -- "Letting a younger HEAD OF QUEUE task push an enabled SIMPLE one back to dormant.": 0.1 S stays enabled and completes, out of its turn, so
 -- that run stays 2
 abbrev pub youngerHead : Case
 youngerHead =
-    from (table 0x54_48_01_00_01_00_02_00 quiet (0x54_54_00_00_02_00_00_01 ∷ []))
-    (enters 0x54_56_01_01_01_00_00_01
-    (table 0x54_48_01_00_02_00_02_00 quiet (0x54_54_00_00_02_00_00_01 ∷ 0x54_54_01_01_02_00_00_01 ∷ []))
+    from (table (header 0x00 1 0 2) quiet (task 0 simple enabled 0 1 ∷ []))
+    (enters (command 1 headOfQueue 0 1) (table (header 0x00 2 0 2) quiet (task 0 simple enabled 0 1 ∷ task 1 headOfQueue enabled 0 1 ∷ []))
     ∷ name (turn 1 1)
-    ∷ does 0x54_56_02_00_00_00_00_01 (line 0 0 0 0 0 1)
-    (table 0x54_48_01_00_01_00_02_00 quiet (0x54_54_01_01_02_00_00_01 ∷ [])) (report (0x54_45_00_00_00_00_00_01 ∷ []))
+    ∷ does (completion 0 0x00 1) (line 0 0 0 0 0 1)
+    (table (header 0x00 1 0 2) quiet (task 1 headOfQueue enabled 0 1 ∷ [])) (report (ended 0 0x00 1 ∷ []))
     ∷ [])
 
 -- "Clearing ACA on ABORT TASK SET.": from the faulted nexus it ends the ACA task too; the ACA stays, so that 1.1 stays blocked, nobody has
 -- the turn, and nexus 1 is BUSY
 abbrev pub abortTaskSetInAca : Case
 abortTaskSetInAca =
-    from
-    (table 0x54_48_01_00_03_01_00_00 quiet
-    (0x54_54_00_00_03_00_00_01 ∷ 0x54_54_01_00_03_00_00_01 ∷ 0x54_54_00_04_02_00_00_09 ∷ []))
-    (does 0x54_56_03_00_02_00_00_00 (line 0 0 0 0 0 2)
-    (table 0x54_48_01_00_01_01_00_00 quiet (0x54_54_01_00_03_00_00_01 ∷ []))
-    (report (0x54_45_00_FF_00_00_00_01 ∷ 0x54_45_00_FF_00_00_00_09 ∷ []))
+    from (table (header 0x00 3 1 0) quiet (task 0 simple blocked 0 1 ∷ task 1 simple blocked 0 1 ∷ task 0 aca enabled 0 9 ∷ []))
+    (does (management 0 2 0) (line 0 0 0 0 0 2)
+    (table (header 0x00 1 1 0) quiet (task 1 simple blocked 0 1 ∷ [])) (report (ended 0 0xFF 1 ∷ ended 0 0xFF 9 ∷ []))
     ∷ name nothing
-    ∷ keeps 0x54_56_01_01_00_00_00_02 (line 7 0x08 0 0 0 0)
+    ∷ keeps (command 1 simple 0 2) (line 7 0x08 0 0 0 0)
     ∷ [])
 
 -- "Telling the causing nexus 2Fh/00h about its own aborts.": QERR 01b aborts 0.2 and 1.1; the next command of nexus 0 enters, that of nexus 1
 -- is told
 abbrev pub causingNexus : Case
 causingNexus =
-    from
-    (table 0x54_48_01_01_03_00_00_00 quiet
-    (0x54_54_00_00_02_00_00_01 ∷ 0x54_54_00_00_02_00_00_02 ∷ 0x54_54_01_00_02_00_00_01 ∷ []))
-    (does 0x54_56_02_00_02_00_00_01 (line 0 0 0 0 0 3)
-    (table 0x54_48_01_01_00_00_00_00 (bits 0 0x10 0 0 0 0 0 0) [])
-    (report (0x54_45_00_02_00_00_00_01 ∷ 0x54_45_00_FF_00_00_00_02 ∷ 0x54_45_01_FF_00_00_00_01 ∷ []))
-    ∷ enters 0x54_56_01_00_00_00_00_03 (table 0x54_48_01_01_01_00_00_00 (bits 0 0x10 0 0 0 0 0 0) (0x54_54_00_00_02_00_00_03 ∷ []))
-    ∷ does 0x54_56_01_01_00_00_00_03 (line 7 0x02 0x06 0x2F 0x00 0)
-    (table 0x54_48_01_01_01_00_00_00 quiet (0x54_54_00_00_02_00_00_03 ∷ [])) (report [])
+    from (table (header 0x01 3 0 0) quiet (task 0 simple enabled 0 1 ∷ task 0 simple enabled 0 2 ∷ task 1 simple enabled 0 1 ∷ []))
+    (does (completion 0 0x02 1) (line 0 0 0 0 0 3)
+    (table (header 0x01 0 0 0) (bits 0 0x10 0 0 0 0 0 0) []) (report (ended 0 0x02 1 ∷ ended 0 0xFF 2 ∷ ended 1 0xFF 1 ∷ []))
+    ∷ enters (command 0 simple 0 3) (table (header 0x01 1 0 0) (bits 0 0x10 0 0 0 0 0 0) (task 0 simple enabled 0 3 ∷ []))
+    ∷ does (command 1 simple 0 3) (line 7 0x02 0x06 0x2F 0x00 0) (table (header 0x01 1 0 0) quiet (task 0 simple enabled 0 3 ∷ [])) (report [])
     ∷ [])
 
 -- "Serving the youngest HEAD OF QUEUE task first, which starves older ones.": of 0.1, 1.1 and then 2.1 H the oldest has the turn each time
 abbrev pub oldestHead : Case
 oldestHead =
     from (clear 0x00)
-    (enters 0x54_56_01_00_01_00_00_01 (table 0x54_48_01_00_01_00_00_00 quiet (0x54_54_00_01_02_00_00_01 ∷ []))
-    ∷ enters 0x54_56_01_01_01_00_00_01
-    (table 0x54_48_01_00_02_00_00_00 quiet (0x54_54_00_01_02_00_00_01 ∷ 0x54_54_01_01_02_00_00_01 ∷ []))
+    (enters (command 0 headOfQueue 0 1) (table (header 0x00 1 0 0) quiet (task 0 headOfQueue enabled 0 1 ∷ []))
+    ∷ enters (command 1 headOfQueue 0 1) (table (header 0x00 2 0 0) quiet (task 0 headOfQueue enabled 0 1 ∷ task 1 headOfQueue enabled 0 1 ∷ []))
     ∷ name (turn 0 1)
-    ∷ does 0x54_56_02_00_00_00_00_01 (line 0 0 0 0 0 1)
-    (table 0x54_48_01_00_01_00_01_00 quiet (0x54_54_01_01_02_00_00_01 ∷ [])) (report (0x54_45_00_00_00_00_00_01 ∷ []))
-    ∷ enters 0x54_56_01_02_01_00_00_01
-    (table 0x54_48_01_00_02_00_01_00 quiet (0x54_54_01_01_02_00_00_01 ∷ 0x54_54_02_01_02_00_00_01 ∷ []))
+    ∷ does (completion 0 0x00 1) (line 0 0 0 0 0 1)
+    (table (header 0x00 1 0 1) quiet (task 1 headOfQueue enabled 0 1 ∷ [])) (report (ended 0 0x00 1 ∷ []))
+    ∷ enters (command 2 headOfQueue 0 1) (table (header 0x00 2 0 1) quiet (task 1 headOfQueue enabled 0 1 ∷ task 2 headOfQueue enabled 0 1 ∷ []))
     ∷ name (turn 1 1)
     ∷ [])

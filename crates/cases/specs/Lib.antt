@@ -1,4 +1,7 @@
+pub mod Makers
 pub mod Play
+pub mod Printed
+pub mod Shorthand
 pub mod Paper
 pub mod Begin
 pub mod Errors

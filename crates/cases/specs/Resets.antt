@@ -1,39 +1,37 @@
 -- Document 01, "Ends, ACA and aborts": resets and pending bits.
 use Prim.Native.Nat.{ℕ}
 use mathlib.Core.List.{List, [], _∷_}
-use Rattle.cases.specs.Play.{bits, table, report, line, same, start, does, Case, from}
+use Rattle.cases.specs.Makers.{simple, aca, enabled, blocked, header, task, ended, management, condition, bits, table, report}
+use Rattle.cases.specs.Shorthand.{line, does, from}
+use Rattle.cases.specs.Play.{same, start, Case}
 
 -- policy 07h, an ACA of nexus 3, run 4, and in the pending bits each that a reset takes or leaves; 1.1 S blocked, and the ACA task 3.9
 abbrev beforeReset : List ℕ
 beforeReset =
-    table 0x54_48_01_07_02_04_04_00 (bits 0x1F 0x1E 0x1C 0x18 0x10 0x00 0x01 0x02)
-    (0x54_54_01_00_03_00_00_01 ∷ 0x54_54_03_04_02_00_00_09 ∷ [])
+    table (header 0x07 2 4 4) (bits 0x1F 0x1E 0x1C 0x18 0x10 0x00 0x01 0x02) (task 1 simple blocked 0 1 ∷ task 3 aca enabled 0 9 ∷ [])
 
 -- "Logical unit reset ends all tasks with FFh, clears ACA and run; every nexus gets bit 2 and loses bits 3 and 4."; the sender, 6, included;
 -- "Policy survives all."
 abbrev pub unitReset : Case
 unitReset =
     from beforeReset
-    (does 0x54_56_03_06_05_00_00_00 (line 0 0 0 0 0 2)
-    (table 0x54_48_01_07_00_00_00_00 (bits 0x07 0x06 0x04 0x04 0x04 0x04 0x05 0x06) [])
-    (report (0x54_45_01_FF_00_00_00_01 ∷ 0x54_45_03_FF_00_00_00_09 ∷ []))
+    (does (management 6 5 0) (line 0 0 0 0 0 2)
+    (table (header 0x07 0 0 0) (bits 0x07 0x06 0x04 0x04 0x04 0x04 0x05 0x06) []) (report (ended 1 0xFF 1 ∷ ended 3 0xFF 9 ∷ []))
     ∷ [])
 
 -- "Hard reset likewise: bit 1, losing 2 to 4."
 abbrev pub hardReset : Case
 hardReset =
     from beforeReset
-    (does 0x54_56_04_00_02_00_00_00 (line 0 0 0 0 0 2)
-    (table 0x54_48_01_07_00_00_00_00 (bits 0x03 0x02 0x02 0x02 0x02 0x02 0x03 0x02) [])
-    (report (0x54_45_01_FF_00_00_00_01 ∷ 0x54_45_03_FF_00_00_00_09 ∷ []))
+    (does (condition 0 2) (line 0 0 0 0 0 2)
+    (table (header 0x07 0 0 0) (bits 0x03 0x02 0x02 0x02 0x02 0x02 0x03 0x02) []) (report (ended 1 0xFF 1 ∷ ended 3 0xFF 9 ∷ []))
     ∷ [])
 
 -- "Power on likewise: bit 0 and no other." "A fresh table equals the state after power on."
 abbrev pub powerOn : Case
 powerOn =
     from beforeReset
-    (does 0x54_56_04_00_01_00_00_00 (line 0 0 0 0 0 2)
-    (table 0x54_48_01_07_00_00_00_00 (bits 1 1 1 1 1 1 1 1) []) (report (0x54_45_01_FF_00_00_00_01 ∷ 0x54_45_03_FF_00_00_00_09 ∷ []))
+    (does (condition 0 1) (line 0 0 0 0 0 2) (table (header 0x07 0 0 0) (bits 1 1 1 1 1 1 1 1) []) (report (ended 1 0xFF 1 ∷ ended 3 0xFF 9 ∷ []))
     ∷ start 0x07 0 same
     ∷ [])
 
@@ -42,20 +40,18 @@ powerOn =
 abbrev pub faultedNexusLoss : Case
 faultedNexusLoss =
     from beforeReset
-    (does 0x54_56_04_03_03_00_00_00 (line 0 0 0 0 0 1)
-    (table 0x54_48_01_07_01_00_04_00 (bits 0x1F 0x1E 0x1C 0x08 0x10 0x00 0x01 0x02) (0x54_54_01_00_02_00_00_01 ∷ []))
-    (report (0x54_45_03_FF_00_00_00_09 ∷ []))
+    (does (condition 3 3) (line 0 0 0 0 0 1)
+    (table (header 0x07 1 0 4) (bits 0x1F 0x1E 0x1C 0x08 0x10 0x00 0x01 0x02) (task 1 simple enabled 0 1 ∷ [])) (report (ended 3 0xFF 9 ∷ []))
     ∷ [])
 
 -- DECISIONS: "an ACA of another nexus stays": nexus 1 with its task, nexus 2 and 5 without one
 abbrev pub otherNexusLoss : Case
 otherNexusLoss =
     from beforeReset
-    (does 0x54_56_04_01_03_00_00_00 (line 0 0 0 0 0 1)
-    (table 0x54_48_01_07_01_04_04_00 (bits 0x1F 0x0E 0x1C 0x18 0x10 0x00 0x01 0x02) (0x54_54_03_04_02_00_00_09 ∷ []))
-    (report (0x54_45_01_FF_00_00_00_01 ∷ []))
-    ∷ does 0x54_56_04_02_03_00_00_00 (line 0 0 0 0 0 0)
-    (table 0x54_48_01_07_01_04_04_00 (bits 0x1F 0x0E 0x0C 0x18 0x10 0x00 0x01 0x02) (0x54_54_03_04_02_00_00_09 ∷ [])) (report [])
-    ∷ does 0x54_56_04_05_03_00_00_00 (line 0 0 0 0 0 0)
-    (table 0x54_48_01_07_01_04_04_00 (bits 0x1F 0x0E 0x0C 0x18 0x10 0x08 0x01 0x02) (0x54_54_03_04_02_00_00_09 ∷ [])) (report [])
+    (does (condition 1 3) (line 0 0 0 0 0 1)
+    (table (header 0x07 1 4 4) (bits 0x1F 0x0E 0x1C 0x18 0x10 0x00 0x01 0x02) (task 3 aca enabled 0 9 ∷ [])) (report (ended 1 0xFF 1 ∷ []))
+    ∷ does (condition 2 3) (line 0 0 0 0 0 0)
+    (table (header 0x07 1 4 4) (bits 0x1F 0x0E 0x0C 0x18 0x10 0x00 0x01 0x02) (task 3 aca enabled 0 9 ∷ [])) (report [])
+    ∷ does (condition 5 3) (line 0 0 0 0 0 0)
+    (table (header 0x07 1 4 4) (bits 0x1F 0x0E 0x0C 0x18 0x10 0x08 0x01 0x02) (task 3 aca enabled 0 9 ∷ [])) (report [])
     ∷ [])

@@ -1,36 +1,30 @@
 -- Document 01, "Turn rule (house)".
 use mathlib.Core.List.{[], _∷_}
-use Rattle.cases.specs.Play.{quiet, table, report, line, turn, nothing, lend, name, does, enters, Case, from}
+use Rattle.cases.specs.Makers.{simple, headOfQueue, ordered, aca, dormant, enabled, blocked}
+use Rattle.cases.specs.Makers.{header, task, ended, command, completion, quiet, table, report}
+use Rattle.cases.specs.Shorthand.{line, turn, nothing, does, enters, from}
+use Rattle.cases.specs.Play.{lend, name, Case}
 
 -- "K: 0.1 S at run 0, a new H before each turn: 0.1 ends at turn 5." Run is 1, 2, 3, 4 on the way and 0 after the fifth turn.
 abbrev pub caseK : Case
 caseK =
-    from (table 0x54_48_01_00_01_00_00_00 quiet (0x54_54_00_00_02_00_00_01 ∷ []))
-    (enters 0x54_56_01_01_01_00_00_01
-    (table 0x54_48_01_00_02_00_00_00 quiet (0x54_54_00_00_02_00_00_01 ∷ 0x54_54_01_01_02_00_00_01 ∷ []))
+    from (table (header 0x00 1 0 0) quiet (task 0 simple enabled 0 1 ∷ []))
+    (enters (command 1 headOfQueue 0 1) (table (header 0x00 2 0 0) quiet (task 0 simple enabled 0 1 ∷ task 1 headOfQueue enabled 0 1 ∷ []))
     ∷ name (turn 1 1)
-    ∷ does 0x54_56_02_01_00_00_00_01 (line 0 0 0 0 0 1)
-    (table 0x54_48_01_00_01_00_01_00 quiet (0x54_54_00_00_02_00_00_01 ∷ [])) (report (0x54_45_01_00_00_00_00_01 ∷ []))
-    ∷ enters 0x54_56_01_01_01_00_00_02
-    (table 0x54_48_01_00_02_00_01_00 quiet (0x54_54_00_00_02_00_00_01 ∷ 0x54_54_01_01_02_00_00_02 ∷ []))
+    ∷ does (completion 1 0x00 1) (line 0 0 0 0 0 1) (table (header 0x00 1 0 1) quiet (task 0 simple enabled 0 1 ∷ [])) (report (ended 1 0x00 1 ∷ []))
+    ∷ enters (command 1 headOfQueue 0 2) (table (header 0x00 2 0 1) quiet (task 0 simple enabled 0 1 ∷ task 1 headOfQueue enabled 0 2 ∷ []))
     ∷ name (turn 1 2)
-    ∷ does 0x54_56_02_01_00_00_00_02 (line 0 0 0 0 0 1)
-    (table 0x54_48_01_00_01_00_02_00 quiet (0x54_54_00_00_02_00_00_01 ∷ [])) (report (0x54_45_01_00_00_00_00_02 ∷ []))
-    ∷ enters 0x54_56_01_01_01_00_00_03
-    (table 0x54_48_01_00_02_00_02_00 quiet (0x54_54_00_00_02_00_00_01 ∷ 0x54_54_01_01_02_00_00_03 ∷ []))
+    ∷ does (completion 1 0x00 2) (line 0 0 0 0 0 1) (table (header 0x00 1 0 2) quiet (task 0 simple enabled 0 1 ∷ [])) (report (ended 1 0x00 2 ∷ []))
+    ∷ enters (command 1 headOfQueue 0 3) (table (header 0x00 2 0 2) quiet (task 0 simple enabled 0 1 ∷ task 1 headOfQueue enabled 0 3 ∷ []))
     ∷ name (turn 1 3)
-    ∷ does 0x54_56_02_01_00_00_00_03 (line 0 0 0 0 0 1)
-    (table 0x54_48_01_00_01_00_03_00 quiet (0x54_54_00_00_02_00_00_01 ∷ [])) (report (0x54_45_01_00_00_00_00_03 ∷ []))
-    ∷ enters 0x54_56_01_01_01_00_00_04
-    (table 0x54_48_01_00_02_00_03_00 quiet (0x54_54_00_00_02_00_00_01 ∷ 0x54_54_01_01_02_00_00_04 ∷ []))
+    ∷ does (completion 1 0x00 3) (line 0 0 0 0 0 1) (table (header 0x00 1 0 3) quiet (task 0 simple enabled 0 1 ∷ [])) (report (ended 1 0x00 3 ∷ []))
+    ∷ enters (command 1 headOfQueue 0 4) (table (header 0x00 2 0 3) quiet (task 0 simple enabled 0 1 ∷ task 1 headOfQueue enabled 0 4 ∷ []))
     ∷ name (turn 1 4)
-    ∷ does 0x54_56_02_01_00_00_00_04 (line 0 0 0 0 0 1)
-    (table 0x54_48_01_00_01_00_04_00 quiet (0x54_54_00_00_02_00_00_01 ∷ [])) (report (0x54_45_01_00_00_00_00_04 ∷ []))
-    ∷ enters 0x54_56_01_01_01_00_00_05
-    (table 0x54_48_01_00_02_00_04_00 quiet (0x54_54_00_00_02_00_00_01 ∷ 0x54_54_01_01_02_00_00_05 ∷ []))
+    ∷ does (completion 1 0x00 4) (line 0 0 0 0 0 1) (table (header 0x00 1 0 4) quiet (task 0 simple enabled 0 1 ∷ [])) (report (ended 1 0x00 4 ∷ []))
+    ∷ enters (command 1 headOfQueue 0 5) (table (header 0x00 2 0 4) quiet (task 0 simple enabled 0 1 ∷ task 1 headOfQueue enabled 0 5 ∷ []))
     ∷ name (turn 0 1)
-    ∷ does 0x54_56_02_00_00_00_00_01 (line 0 0 0 0 0 1)
-    (table 0x54_48_01_00_01_00_00_00 quiet (0x54_54_01_01_02_00_00_05 ∷ [])) (report (0x54_45_00_00_00_00_00_01 ∷ []))
+    ∷ does (completion 0 0x00 1) (line 0 0 0 0 0 1)
+    (table (header 0x00 1 0 0) quiet (task 1 headOfQueue enabled 0 5 ∷ [])) (report (ended 0 0x00 1 ∷ []))
     ∷ name (turn 1 5)
     ∷ [])
 
@@ -38,44 +32,41 @@ caseK =
 -- run + 1 and 4"
 abbrev pub runStaysFour : Case
 runStaysFour =
-    from (table 0x54_48_01_00_02_00_04_00 quiet (0x54_54_01_01_02_00_00_01 ∷ 0x54_54_00_00_01_00_00_01 ∷ []))
+    from (table (header 0x00 2 0 4) quiet (task 1 headOfQueue enabled 0 1 ∷ task 0 simple dormant 0 1 ∷ []))
     (name (turn 1 1)
-    ∷ does 0x54_56_02_01_00_00_00_01 (line 0 0 0 0 0 1)
-    (table 0x54_48_01_00_01_00_04_00 quiet (0x54_54_00_00_02_00_00_01 ∷ [])) (report (0x54_45_01_00_00_00_00_01 ∷ []))
+    ∷ does (completion 1 0x00 1) (line 0 0 0 0 0 1) (table (header 0x00 1 0 4) quiet (task 0 simple enabled 0 1 ∷ [])) (report (ended 1 0x00 1 ∷ []))
     ∷ [])
 
 -- "to 0 if SIMPLE or ORDERED": an ORDERED task's turn
 abbrev pub orderedTurn : Case
 orderedTurn =
-    from (table 0x54_48_01_00_01_00_03_00 quiet (0x54_54_00_02_02_00_00_01 ∷ []))
+    from (table (header 0x00 1 0 3) quiet (task 0 ordered enabled 0 1 ∷ []))
     (name (turn 0 1)
-    ∷ does 0x54_56_02_00_00_00_00_01 (line 0 0 0 0 0 1)
-    (table 0x54_48_01_00_00_00_00_00 quiet []) (report (0x54_45_00_00_00_00_00_01 ∷ []))
+    ∷ does (completion 0 0x00 1) (line 0 0 0 0 0 1) (table (header 0x00 0 0 0) quiet []) (report (ended 0 0x00 1 ∷ []))
     ∷ [])
 
 -- "Other completions .. leave it.": 1.1 H is enabled and not named
 abbrev pub headOutOfTurn : Case
 headOutOfTurn =
-    from (table 0x54_48_01_00_02_00_01_00 quiet (0x54_54_00_01_02_00_00_01 ∷ 0x54_54_01_01_02_00_00_01 ∷ []))
+    from (table (header 0x00 2 0 1) quiet (task 0 headOfQueue enabled 0 1 ∷ task 1 headOfQueue enabled 0 1 ∷ []))
     (name (turn 0 1)
-    ∷ does 0x54_56_02_01_00_00_00_01 (line 0 0 0 0 0 1)
-    (table 0x54_48_01_00_01_00_01_00 quiet (0x54_54_00_01_02_00_00_01 ∷ [])) (report (0x54_45_01_00_00_00_00_01 ∷ []))
+    ∷ does (completion 1 0x00 1) (line 0 0 0 0 0 1)
+    (table (header 0x00 1 0 1) quiet (task 0 headOfQueue enabled 0 1 ∷ [])) (report (ended 1 0x00 1 ∷ []))
     ∷ [])
 
 -- DECISIONS, "Turn and run": "the CHECK CONDITION that sets up an ACA is a turn and sets run"
 abbrev pub failedTurn : Case
 failedTurn =
-    from (table 0x54_48_01_00_02_00_00_00 quiet (0x54_54_01_01_02_01_00_01 ∷ 0x54_54_00_00_01_00_00_01 ∷ []))
+    from (table (header 0x00 2 0 0) quiet (task 1 headOfQueue enabled 1 1 ∷ task 0 simple dormant 0 1 ∷ []))
     (name (turn 1 1)
-    ∷ does 0x54_56_02_01_02_00_00_01 (line 0 0 0 0 0 1)
-    (table 0x54_48_01_00_01_02_01_00 quiet (0x54_54_00_00_01_00_00_01 ∷ [])) (report (0x54_45_01_02_00_00_00_01 ∷ []))
+    ∷ does (completion 1 0x02 1) (line 0 0 0 0 0 1) (table (header 0x00 1 2 1) quiet (task 0 simple dormant 0 1 ∷ [])) (report (ended 1 0x02 1 ∷ []))
     ∷ [])
 
 -- "With ACA: the ACA task, else nothing.": not the blocked HEAD OF QUEUE task
 abbrev pub turnInAca : Case
 turnInAca =
-    from (table 0x54_48_01_00_02_01_00_00 quiet (0x54_54_01_01_03_00_00_01 ∷ 0x54_54_00_04_02_00_00_09 ∷ []))
+    from (table (header 0x00 2 1 0) quiet (task 1 headOfQueue blocked 0 1 ∷ task 0 aca enabled 0 9 ∷ []))
     (name (turn 0 9)
-    ∷ lend (table 0x54_48_01_00_01_01_00_00 quiet (0x54_54_01_01_03_00_00_01 ∷ []))
+    ∷ lend (table (header 0x00 1 1 0) quiet (task 1 headOfQueue blocked 0 1 ∷ []))
     ∷ name nothing
     ∷ [])

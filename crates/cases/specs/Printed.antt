@@ -1,0 +1,58 @@
+-- What document 01 prints, byte by byte, beside what `Makers` makes of it: a wrong maker, width or place is found here, and not taken for a rule.
+--
+--   Print            := bytes or numbers that are made, and those on paper
+--   agrees p         := the two are equal
+--   printed          := each maker and width, and each place that a case names
+use Prim.Native.Nat.{ℕ}
+use mathlib.Core.Bool.{Bool}
+use mathlib.Core.List.{List, [], _∷_}
+use lib.ListN.{length, take, drop}
+use Rattle.cases.specs.Makers.{headerWidth, nexusWidth, taskWidth, eventWidth, nexusAt, taskAt, tableLength, reportLength, zeros}
+use Rattle.cases.specs.Makers.{simple, headOfQueue, ordered, aca, dormant, enabled, blocked}
+use Rattle.cases.specs.Makers.{header, nexus, task, ended, event, command, completion, management, condition, bits, table, report}
+use Rattle.cases.specs.Play.{sameBytes}
+
+pub record Print : Type 0 where
+  pub made : List ℕ
+  pub paper : List ℕ
+
+abbrev pub agrees : Print → Bool
+agrees p = sameBytes (p .made) (p .paper)
+
+abbrev prints : List ℕ → List ℕ → Print
+prints made paper = record { made = made; paper = paper }
+
+-- n bytes, from byte i on
+abbrev part : ℕ → ℕ → List ℕ → List ℕ
+part i n bs = take n (drop i bs)
+
+-- case A after its second event
+abbrev tableOfA : List ℕ
+tableOfA = table (header 0x00 1 0 0) (bits 1 1 0 1 1 1 1 1) (task 2 simple enabled 0 7 ∷ [])
+
+-- Case A: "events 54 56 01 02 00 00 00 07 twice, then 54 56 02 02 00 00 00 07. First: .. nexus record 54 4E 02 00 00 00 00 00. Second: .. header
+-- 54 48 01 00 01 00 00 00, task 54 54 02 00 02 00 00 07. Third: .. report 54 45 02 00 00 00 00 07, then 504 zeros"; "Unused ones are 54 54 and six
+-- zeros." Then the records' fields in their order, each with a number of its own; "Tags are big-endian." Then the attributes, the states and the
+-- lengths: "584 bytes", "512 bytes", "a length other than 8".
+abbrev pub printed : List Print
+printed =
+    prints (command 2 simple 0 7) (0x54 ∷ 0x56 ∷ 0x01 ∷ 0x02 ∷ 0x00 ∷ 0x00 ∷ 0x00 ∷ 0x07 ∷ [])
+    ∷ prints (completion 2 0x00 7) (0x54 ∷ 0x56 ∷ 0x02 ∷ 0x02 ∷ 0x00 ∷ 0x00 ∷ 0x00 ∷ 0x07 ∷ [])
+    ∷ prints (part (nexusAt 2) nexusWidth tableOfA) (0x54 ∷ 0x4E ∷ 0x02 ∷ 0x00 ∷ 0x00 ∷ 0x00 ∷ 0x00 ∷ 0x00 ∷ [])
+    ∷ prints (part 0 headerWidth tableOfA) (0x54 ∷ 0x48 ∷ 0x01 ∷ 0x00 ∷ 0x01 ∷ 0x00 ∷ 0x00 ∷ 0x00 ∷ [])
+    ∷ prints (part (taskAt 0) taskWidth tableOfA) (0x54 ∷ 0x54 ∷ 0x02 ∷ 0x00 ∷ 0x02 ∷ 0x00 ∷ 0x00 ∷ 0x07 ∷ [])
+    ∷ prints (part (taskAt 63) taskWidth tableOfA) (0x54 ∷ 0x54 ∷ zeros 6)
+    ∷ prints (report (ended 2 0x00 7 ∷ [])) (0x54 ∷ 0x45 ∷ 0x02 ∷ 0x00 ∷ 0x00 ∷ 0x00 ∷ 0x00 ∷ 0x07 ∷ zeros 504)
+    ∷ prints (header 0x02 3 4 5) (0x54 ∷ 0x48 ∷ 0x01 ∷ 0x02 ∷ 0x03 ∷ 0x04 ∷ 0x05 ∷ 0x00 ∷ [])
+    ∷ prints (nexus 1 2 0) (0x54 ∷ 0x4E ∷ 0x01 ∷ 0x02 ∷ 0x00 ∷ 0x00 ∷ 0x00 ∷ 0x00 ∷ [])
+    ∷ prints (task 1 2 3 4 0x0506) (0x54 ∷ 0x54 ∷ 0x01 ∷ 0x02 ∷ 0x03 ∷ 0x04 ∷ 0x05 ∷ 0x06 ∷ [])
+    ∷ prints (ended 1 2 0x0304) (0x54 ∷ 0x45 ∷ 0x01 ∷ 0x02 ∷ 0x00 ∷ 0x00 ∷ 0x03 ∷ 0x04 ∷ [])
+    ∷ prints (event 9 1 2 3 0x0405) (0x54 ∷ 0x56 ∷ 0x09 ∷ 0x01 ∷ 0x02 ∷ 0x03 ∷ 0x04 ∷ 0x05 ∷ [])
+    ∷ prints (command 2 3 4 0x0506) (0x54 ∷ 0x56 ∷ 0x01 ∷ 0x02 ∷ 0x03 ∷ 0x04 ∷ 0x05 ∷ 0x06 ∷ [])
+    ∷ prints (completion 3 4 0x0506) (0x54 ∷ 0x56 ∷ 0x02 ∷ 0x03 ∷ 0x04 ∷ 0x00 ∷ 0x05 ∷ 0x06 ∷ [])
+    ∷ prints (management 4 5 0x0607) (0x54 ∷ 0x56 ∷ 0x03 ∷ 0x04 ∷ 0x05 ∷ 0x00 ∷ 0x06 ∷ 0x07 ∷ [])
+    ∷ prints (condition 5 6) (0x54 ∷ 0x56 ∷ 0x04 ∷ 0x05 ∷ 0x06 ∷ 0x00 ∷ 0x00 ∷ 0x00 ∷ [])
+    ∷ prints (simple ∷ headOfQueue ∷ ordered ∷ aca ∷ []) (0 ∷ 1 ∷ 2 ∷ 4 ∷ [])
+    ∷ prints (dormant ∷ enabled ∷ blocked ∷ []) (1 ∷ 2 ∷ 3 ∷ [])
+    ∷ prints (tableLength ∷ length tableOfA ∷ reportLength ∷ length (report []) ∷ eventWidth ∷ []) (584 ∷ 584 ∷ 512 ∷ 512 ∷ 8 ∷ [])
+    ∷ []
