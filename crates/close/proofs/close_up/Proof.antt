@@ -8,9 +8,7 @@ pub close-up-spec : {M : Type 1} → statement M
 close-up-spec =
     tie.close
     (tie.spec
-    (λ c κs. search needs)
-    (λ c κs. search needs)
-    (λ c. search needs)
+    (λ c κs. search needs) (λ c κs. search needs) (λ c. search needs)
     (λ c.
     let vacated = c .before .before in
     let kept = vacated .before .before .before .before .keep .ensures in

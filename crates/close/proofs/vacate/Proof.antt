@@ -20,15 +20,9 @@ unfolding vacatedBytes
 vacate-spec =
     tie.close
     (tie.spec
-    Inv-loop
-    μ-loop
+    Inv-loop μ-loop
     (λ c. record { room = omega arith; long = refl; passed = omega arith; rest = refl })
-    (λ c. search needs)
-    (λ c. search needs)
-    (λ c κs. search needs)
-    (λ c κs. search needs)
-    (λ c. search needs)
-    (λ c. search needs)
+    (λ c. search needs) (λ c. search needs) (λ c κs. search needs) (λ c κs. search needs) (λ c. search needs) (λ c. search needs)
     (λ c.
     let put = c .before .before in
     let turn = put .before .before .before in

@@ -6,10 +6,7 @@ pub dedakhumi-apply-spec : {M : Type 1} → statement M
 dedakhumi-apply-spec =
     tie.close
     (tie.spec
-    (λ c κs. search needs)
-    (λ c κs. search needs)
-    (λ c. search needs)
-    (λ c. search needs)
+    (λ c κs. search needs) (λ c κs. search needs) (λ c. search needs) (λ c. search needs)
     (λ c.
     let applied = c .before .before .before .before .before .apply .ensures in
     record {

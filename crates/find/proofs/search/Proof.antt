@@ -19,20 +19,13 @@ Inv-loop t n w i₀ i =
 abbrev μ-loop : tie.MeasureT-loop
 μ-loop t n w i₀ i = n - i
 
-pub search-spec : {M : Type 1} → statement M
+loop-holds : tie.Need-loop-holds Inv-loop μ-loop
 unfolding tasksFrom
-search-spec =
-    tie.close
-    (tie.spec
-    Inv-loop
-    μ-loop
-    (λ c. let n = c .before .args .n in let all : n - 0 ≡ n = omega arith in (omega arith, rw all))
-    (λ c. omega arith)
-    (λ c. omega arith)
-    (λ c κs. omega arith)
-    (λ c κs. search needs)
-    (λ c κs. search needs)
-    (λ c.
+loop-holds c = let n = c .before .args .n in let all : n - 0 ≡ n = omega arith in (omega arith, rw all)
+
+returns : tie.Need-returns Inv-loop μ-loop
+unfolding tasksFrom
+returns c =
     let turn = c .before .before .before .before .before .loop in
     let args = c .before .before .before .before .before .before .before .args in
     (rw (
@@ -42,10 +35,11 @@ search-spec =
       ← c .before .wants .ensures,
       c .if1 .taken,
     )
-    at (turn .inv .1)))
-    (λ c. omega arith)
-    (λ c. omega arith)
-    (λ c.
+    at (turn .inv .1))
+
+loop-again : tie.Need-loop-again Inv-loop μ-loop
+unfolding tasksFrom
+loop-again c =
     let turn = c .before .before .before .before .before .loop in
     let args = c .before .before .before .before .before .before .before .args in (
       omega arith,
@@ -57,8 +51,19 @@ search-spec =
         c .if1 .left,
       )
           at (turn .inv .1),
-    ))
-    (λ c.
+    )
+
+returns-2 : tie.Need-returns-2 Inv-loop μ-loop
+unfolding tasksFrom
+returns-2 c =
     let turn = c .before .loop in
     let none : c .before .before .before .args .n - turn .i ≡ 0 = omega arith in
-    (rw none at (turn .inv .1))))
+    (rw none at (turn .inv .1))
+
+pub search-spec : {M : Type 1} → statement M
+unfolding tasksFrom
+search-spec =
+    tie.close
+    (tie.spec
+    Inv-loop μ-loop loop-holds (λ c. omega arith) (λ c. omega arith) (λ c κs. omega arith) (λ c κs. search needs) (λ c κs. search needs)
+    returns (λ c. omega arith) (λ c. omega arith) loop-again returns-2)

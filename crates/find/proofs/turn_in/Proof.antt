@@ -6,14 +6,8 @@ pub turn-in-spec : {M : Type 1} → statement M
 turn-in-spec =
     tie.close
     (tie.spec
-    (λ c. search needs)
-    (λ c κs. search needs)
-    (λ c κs. search needs)
-    (λ c. search needs)
-    (λ c κs. search needs)
-    (λ c κs. search needs)
-    (λ c κs. search needs)
-    (λ c κs. search needs)
+    (λ c. search needs) (λ c κs. search needs) (λ c κs. search needs) (λ c. search needs) (λ c κs. search needs) (λ c κs. search needs)
+    (λ c κs. search needs) (λ c κs. search needs)
     (λ c. rw (c .before .before .enum-told .given .1, c .turn-of .ensures, c .before .search .ensures))
     (λ c.
     rw (

@@ -9,7 +9,6 @@ unfolding digit
 digit-spec =
     tie.close
     (tie.spec
-    (λ c. search needs)
-    (λ c. search needs)
+    (λ c. search needs) (λ c. search needs)
     (λ c. rw (lt-ltb _ _ (c .if1 .taken)))
     (λ c. rw (le-ltb _ _ (c .if1 .left))))

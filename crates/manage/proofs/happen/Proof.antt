@@ -8,12 +8,7 @@ unfolding happen
 happen-spec =
     tie.close
     (tie.spec
-    (λ c. search needs)
-    (λ c κs. search needs)
-    (λ c. search needs)
-    (λ c κs. search needs)
-    (λ c. search needs)
-    (λ c κs. search needs)
+    (λ c. search needs) (λ c κs. search needs) (λ c. search needs) (λ c κs. search needs) (λ c. search needs) (λ c κs. search needs)
     (λ c. simp (c .reset .ensures, c .before .enum-told .given .1))
     (λ c. simp (c .reset2 .ensures, c .before .enum-told2 .given .1))
     (λ c. simp (c .lose-nexus .ensures, c .before .before .c .given .1)))

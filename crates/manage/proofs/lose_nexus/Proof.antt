@@ -6,6 +6,5 @@ pub lose-nexus-spec : {M : Type 1} → statement M
 lose-nexus-spec =
     tie.close
     (tie.spec
-    (λ c κs. search needs)
-    (λ c κs. search needs)
+    (λ c κs. search needs) (λ c κs. search needs)
     (λ c. simp (c .with-aca .ensures, c .before .aca-without .ensures)))

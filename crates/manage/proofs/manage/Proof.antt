@@ -8,17 +8,8 @@ unfolding manage
 manage-spec =
     tie.close
     (tie.spec
-    (λ c. search needs)
-    (λ c κs. search needs)
-    (λ c. search needs)
-    (λ c κs. search needs)
-    (λ c. search needs)
-    (λ c κs. search needs)
-    (λ c. search needs)
-    (λ c κs. search needs)
-    (λ c. search needs)
-    (λ c κs. search needs)
-    (λ c. search needs)
+    (λ c. search needs) (λ c κs. search needs) (λ c. search needs) (λ c κs. search needs) (λ c. search needs) (λ c κs. search needs)
+    (λ c. search needs) (λ c κs. search needs) (λ c. search needs) (λ c κs. search needs) (λ c. search needs)
     (λ c. simp (c .sweeping-by .ensures, c .before .before .f .given .1))
     (λ c. simp (c .sweeping-by2 .ensures, c .before .enum-told .given .1))
     (λ c. simp (c .clear-task-set .ensures, c .before .enum-told2 .given .1))

@@ -6,6 +6,5 @@ pub reset-spec : {M : Type 1} → statement M
 reset-spec =
     tie.close
     (tie.spec
-    (λ c κs. search needs)
-    (λ c κs. search needs)
+    (λ c κs. search needs) (λ c κs. search needs)
     (λ c. simp (c .with-aca .ensures, c .before .with-run .ensures)))

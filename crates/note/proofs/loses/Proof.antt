@@ -19,23 +19,11 @@ Inv-loop t n w i found₀ j₀ found j =
 abbrev μ-loop : tie.MeasureT-loop
 μ-loop t n w i found₀ j₀ found j = n - j
 
-pub loses-spec : {M : Type 1} → statement M
-loses-spec =
-    tie.close
-    (tie.spec
-    Inv-loop
-    μ-loop
-    (λ c. (search needs, let e : c .before .args .n - 0 ≡ c .before .args .n = omega arith in rw e))
-    (λ c. omega arith)
-    (λ c. omega arith)
-    (λ c κs. omega arith)
-    (λ c κs. search needs)
-    (λ c κs. search needs)
-    (λ c κs. search needs)
-    (λ c κs. search needs)
-    (λ c. omega arith)
-    (λ c. omega arith)
-    (λ c.
+loop-holds : tie.Need-loop-holds Inv-loop μ-loop
+loop-holds c = (search needs, let e : c .before .args .n - 0 ≡ c .before .args .n = omega arith in rw e)
+
+loop-again : tie.Need-loop-again Inv-loop μ-loop
+loop-again c =
     let at = c .before .before .before .before .before .before in
     let a = at .before .before .args in (
       omega arith,
@@ -48,8 +36,17 @@ loses-spec =
       )
           (losing-next (ofNexus (a .i)) (a .w) (a .n) (a .t .now) (at .loop .any) (at .loop .j) (c .before .before .before .before .before .loop-test .taken)
           ∙ at .loop .inv .1),
-    ))
-    (λ c.
+    )
+
+returns : tie.Need-returns Inv-loop μ-loop
+returns c =
     let at = c .before in
     let a = at .before .before .args in
-    sym (losing-all (ofNexus (a .i)) (a .w) (a .n) (a .t .now) (at .loop .any) (at .loop .j) (c .loop-test .left)) ∙ at .loop .inv .1))
+    sym (losing-all (ofNexus (a .i)) (a .w) (a .n) (a .t .now) (at .loop .any) (at .loop .j) (c .loop-test .left)) ∙ at .loop .inv .1
+
+pub loses-spec : {M : Type 1} → statement M
+loses-spec =
+    tie.close
+    (tie.spec
+    Inv-loop μ-loop loop-holds (λ c. omega arith) (λ c. omega arith) (λ c κs. omega arith) (λ c κs. search needs) (λ c κs. search needs)
+    (λ c κs. search needs) (λ c κs. search needs) (λ c. omega arith) (λ c. omega arith) loop-again returns)

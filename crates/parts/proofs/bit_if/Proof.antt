@@ -6,6 +6,5 @@ pub bit-if-spec : {M : Type 1} → statement M
 bit-if-spec =
     tie.close
     (tie.spec
-    (λ c. search needs)
-    (λ c κs. search needs)
+    (λ c. search needs) (λ c κs. search needs)
     (λ c. simp (c .top-bit .ensures, c .before .if1 .left)))

@@ -6,7 +6,5 @@ pub held-off-spec : {M : Type 1} → statement M
 held-off-spec =
     tie.close
     (tie.spec
-    (λ c. search needs)
-    (λ c. search needs)
-    (λ c. search needs)
+    (λ c. search needs) (λ c. search needs) (λ c. search needs)
     (λ c. simp (c .before .aca .given .1)))

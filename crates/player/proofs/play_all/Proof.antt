@@ -16,12 +16,10 @@ pub play-all-spec : {M : Type 1} → statement M
 play-all-spec =
     tie.close
     (tie.spec
-    Inv-loop
-    μ-loop
+    Inv-loop μ-loop
     (λ c. (refl, refl, refl, refl))
     (λ c κs. let turn = c .before .before .before .before .before in rw (turn .loop .inv .2, turn .loop .inv .3) (turn .before .before .before .before .before .pre))
-    (λ c. omega arith)
-    (λ c. omega arith)
+    (λ c. omega arith) (λ c. omega arith)
     (λ c.
     let some = c .before .before .before .before .before .before .before .before .before in
     let kept = some .play-some .kept in

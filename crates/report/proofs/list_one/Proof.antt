@@ -9,14 +9,8 @@ pub list-one-spec : {M : Type 1} → statement M
 list-one-spec =
     tie.close
     (tie.spec
-    (λ c κs. search needs)
-    (λ c κs. search needs)
-    (λ c. search needs)
-    (λ c. search needs)
-    (λ c. search needs)
-    (λ c κs. search needs)
-    (λ c κs. search needs)
-    (λ c. search needs)
+    (λ c κs. search needs) (λ c κs. search needs) (λ c. search needs) (λ c. search needs) (λ c. search needs) (λ c κs. search needs)
+    (λ c κs. search needs) (λ c. search needs)
     (λ c.
     let a = c .before .before .before .before .before .args in
     listed-none (a .w) (a .m) (a .r) (a .report .now)

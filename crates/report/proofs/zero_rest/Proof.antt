@@ -19,12 +19,9 @@ pub zero-rest-spec : {M : Type 1} → statement M
 zero-rest-spec =
     tie.close
     (tie.spec
-    Inv-loop
-    μ-loop
+    Inv-loop μ-loop
     (λ c. (refl, refl, search needs))
-    (λ c. search needs)
-    (λ c. search needs)
-    (λ c. omega arith)
+    (λ c. search needs) (λ c. search needs) (λ c. omega arith)
     (λ c.
     let inv = c .before .loop .inv in
     (rw (inv .0) (fill-more (c .before .loop .i) 0 (c .before .before .args .part .now) (omega arith)), simp length-set (inv .1), omega arith))

@@ -6,12 +6,7 @@ pub restate-spec : {M : Type 1} → statement M
 restate-spec =
     tie.close
     (tie.spec
-    (λ c. search needs)
-    (λ c κs. search needs)
-    (λ c. search needs)
-    (λ c. search needs)
-    (λ c κs. search needs)
-    (λ c. search needs)
+    (λ c. search needs) (λ c κs. search needs) (λ c. search needs) (λ c. search needs) (λ c κs. search needs) (λ c. search needs)
     (λ c. search needs)
     (λ c. rw (c .before .before .settle .ensures, c .before .before .before .before .enum-told .given .1))
     (λ c. search needs)

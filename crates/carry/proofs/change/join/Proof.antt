@@ -7,11 +7,7 @@ pub join-spec : {M : Type 1} → statement M
 join-spec =
     tie.close
     (tie.spec
-    (λ c. search needs)
-    (λ c. search needs)
-    (λ c. search needs)
-    (λ c. search needs)
-    (λ c κs. search needs)
+    (λ c. search needs) (λ c. search needs) (λ c. search needs) (λ c. search needs) (λ c κs. search needs)
     (λ c κs.
     let start = c .before .before .before .before .before .before in
     omega (arith, start .pre .0, rw (c .before .before .before .j .given .1) at (start .pre .1)))

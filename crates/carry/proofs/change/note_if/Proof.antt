@@ -27,8 +27,7 @@ pub note-if-spec : {M : Type 1} → statement M
 note-if-spec =
     tie.close
     (tie.spec
-    (λ c. search needs)
-    (λ c κs. search needs)
+    (λ c. search needs) (λ c κs. search needs)
     (λ c. rw (c .enum-told .given .1))
     (λ c. search needs)
     (λ c. rw (c .before .before .note .ensures, not-quiet (c .before .before .before .before .before .before .args .k) _ _ (c .before .before .before .before .match .keys2))))

@@ -6,6 +6,5 @@ pub aborted-by-spec : {M : Type 1} → statement M
 aborted-by-spec =
     tie.close
     (tie.spec
-    (λ c κs. search needs)
-    (λ c κs. search needs)
+    (λ c κs. search needs) (λ c κs. search needs)
     (λ c. simp (c .status-if .ensures, c .before .before .of-nexus .ensures)))

@@ -8,7 +8,6 @@ fits-settled-spec =
     (tie.spec
     (λ c κs. search needs)
     (λ c. rw (← c .before .is-aca .ensures, c .if1 .taken))
-    (λ c κs. search needs)
-    (λ c κs. search needs)
+    (λ c κs. search needs) (λ c κs. search needs)
     (λ c. rw (← c .before .before .before .is-aca .ensures, c .before .before .if1 .left, c .before .if2 .taken) (c .is-running .ensures))
     (λ c. rw (← c .before .before .before .is-aca .ensures, c .before .before .if1 .left, c .before .if2 .left) (c .is-dormant .ensures)))

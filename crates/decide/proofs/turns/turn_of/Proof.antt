@@ -6,7 +6,5 @@ pub turn-of-spec : {M : Type 1} → statement M
 turn-of-spec =
     tie.close
     (tie.spec
-    (λ c. search needs)
-    (λ c. search needs)
-    (λ c. search needs)
+    (λ c. search needs) (λ c. search needs) (λ c. search needs)
     (λ c. simp (c .before .f .given .1)))

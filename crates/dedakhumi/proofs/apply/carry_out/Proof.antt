@@ -9,11 +9,7 @@ pub carry-out-spec : {M : Type 1} → statement M
 carry-out-spec =
     tie.close
     (tie.spec
-    (λ c. search needs)
-    (λ c κs. search needs)
-    (λ c κs. search needs)
-    (λ c. search needs)
-    (λ c. search needs)
+    (λ c. search needs) (λ c κs. search needs) (λ c κs. search needs) (λ c. search needs) (λ c. search needs)
     (λ c κs.
     let start = c .before .before .before .before .before .before .before .before in
     let r = c .before .before .before .before .r2 in
@@ -25,8 +21,7 @@ carry-out-spec =
       policy = rw (r .given .1) at (start .pre .4);
       well = rw (r .given .1) at (start .pre .3);
     })
-    (λ c. search needs)
-    (λ c. search needs)
+    (λ c. search needs) (λ c. search needs)
     (λ c.
     let zero = c .before .before in
     let r = zero .before .before .before .before in
@@ -39,8 +34,7 @@ carry-out-spec =
       table = refl;
       report = (rw (zero .before .writes-report .ensures) at (zero .zero-if .ensures)) ∙ zeroed (r .r .given .0 .0) report (start .pre .1);
     }))
-    (λ c. search needs)
-    (λ c. search needs)
+    (λ c. search needs) (λ c. search needs)
     (λ c.
     let change = c .before .before .before .before .change .ensures in
     let r = c .before .before .before .before .before .before .before .before .before .r2 in

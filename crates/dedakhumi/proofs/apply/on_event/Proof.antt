@@ -42,8 +42,7 @@ on-event-spec =
           (from-tested (ruled (stateOf t) (ruling (stateOf t) e)) (tested-ruling (stateOf t) e (good-tested t (start .pre .0)))),
       rw (rule .rule .ensures, ruling-read t (read .header-from .result) (start .pre .0) h e (start .pre .2)) (policy-survives (stateOf t) e),
     ))
-    (λ c. search needs)
-    (λ c. search needs)
+    (λ c. search needs) (λ c. search needs)
     (λ c.
     let carry = c .before .before .before .before in
     let rule = carry .before .before .before in

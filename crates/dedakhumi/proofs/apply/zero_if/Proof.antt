@@ -6,7 +6,6 @@ pub zero-if-spec : {M : Type 1} → statement M
 zero-if-spec =
     tie.close
     (tie.spec
-    (λ c κs. search needs)
-    (λ c. search needs)
+    (λ c κs. search needs) (λ c. search needs)
     (λ c. rw (c .before .before .zero-rest .ensures, c .before .before .before .before .if1 .taken))
     (λ c. rw (c .if1 .left)))

@@ -11,8 +11,7 @@ turn-of-table-spec =
     tie.close
     (tie.spec
     (λ c κs. omega (arith, table-tested (c .before .args .t .now) (c .before .pre) .long))
-    (λ c κs. search needs)
-    (λ c. search needs)
+    (λ c κs. search needs) (λ c. search needs)
     (λ c κs.
     let read = c .before in
     let start = read .before .before .before in

@@ -17,8 +17,7 @@ start-spec =
     let args = sized .before .before .args in
     rw (no-policy (args .t .now) (args .policy) (sized .if1 .left) (sym (fits .ensures) ∙ not-true (fits .result) (c .if2 .taken)))
     (record { answer = refl; table = refl }))
-    (λ c κs. search needs)
-    (λ c. search needs)
+    (λ c κs. search needs) (λ c. search needs)
     (λ c.
     let written = c .before .before in
     let passed = written .before .before in

@@ -38,20 +38,9 @@ Inv-pairs keys n clear₀ i₀ clear i = Outer keys n clear i
 abbrev μ-pairs : tie.MeasureT-pairs
 μ-pairs keys n clear₀ i₀ clear i = n - i
 
-pub distinct-spec : {M : Type 1} → statement M
+loop-holds : tie.Need-loop-holds Inv-loop μ-loop Inv-pairs μ-pairs
 unfolding keysApart
-distinct-spec =
-    tie.close
-    (tie.spec
-    Inv-loop
-    μ-loop
-    Inv-pairs
-    μ-pairs
-    (λ c. record { passed = omega arith; clear = refl; rest = refl })
-    (λ c. omega arith)
-    (λ c. omega arith)
-    (λ c. omega arith)
-    (λ c.
+loop-holds c =
     let turn = c .before .before .pairs in
     let start = c .before .before .before in
     let h = c .before .pairs-test .taken in
@@ -60,22 +49,11 @@ distinct-spec =
       low = start .pre .2 .low (turn .i) h;
       clear = turn .inv .clear;
       rest = rw (slice-next (start .args .keys .now) (turn .i) (start .args .n) h (omega arith)) at (turn .inv .rest);
-    })
-    (λ c. omega arith)
-    (λ c. omega arith)
-    (λ c. omega arith)
-    (λ c. omega arith)
-    (λ c. omega arith)
-    (λ c. omega arith)
-    (λ c. omega arith)
-    (λ c. omega arith)
-    (λ c. omega arith)
-    (λ c. omega arith)
-    (λ c. omega arith)
-    (λ c κs. search needs)
-    (λ c. omega arith)
-    (λ c. omega arith)
-    (λ c.
+    }
+
+loop-again : tie.Need-loop-again Inv-loop μ-loop Inv-pairs μ-pairs
+unfolding keysApart
+loop-again c =
     let at = c .before .before .before .before .before .before .before in
     let start = at .before .before .before .before in
     let turn = at .loop in
@@ -91,22 +69,29 @@ distinct-spec =
             c .if1 .left,
           )
           at (turn .inv .rest);
-    })
-    (λ c. omega arith)
-    (λ c. omega arith)
-    (λ c.
+    }
+
+pairs-again : tie.Need-pairs-again Inv-loop μ-loop Inv-pairs μ-pairs
+unfolding keysApart
+pairs-again c =
     let turn = c .before .loop in
     let args = c .before .before .before .before .before .args in
     record {
       passed = omega arith;
       clear = turn .inv .clear;
       rest = rw (slice-past (args .keys .now) (turn .j) (args .n) (c .loop-test .left)) at (turn .inv .rest);
-    })
-    (λ c.
+    }
+
+returns : tie.Need-returns Inv-loop μ-loop Inv-pairs μ-pairs
+unfolding keysApart
+returns c =
     let turn = c .before .pairs in
     let all : turn .i ≡ c .before .before .args .n = omega arith in
-    turn .inv .clear ∙ (rw (all, slice-empty) at (turn .inv .rest)))
-    (λ c.
+    turn .inv .clear ∙ (rw (all, slice-empty) at (turn .inv .rest))
+
+returns-2 : tie.Need-returns-2 Inv-loop μ-loop Inv-pairs μ-pairs
+unfolding keysApart
+returns-2 c =
     let at = c .before .before .before .before .before .before .before in
     let start = at .before .before .before .before in
     let turn = at .loop in
@@ -116,4 +101,15 @@ distinct-spec =
       ← c .before .is-among .ensures,
       c .if1 .taken,
     )
-    at (turn .inv .rest))))
+    at (turn .inv .rest))
+
+pub distinct-spec : {M : Type 1} → statement M
+unfolding keysApart
+distinct-spec =
+    tie.close
+    (tie.spec
+    Inv-loop μ-loop Inv-pairs μ-pairs (λ c. record { passed = omega arith; clear = refl; rest = refl }) (λ c. omega arith)
+    (λ c. omega arith) (λ c. omega arith) loop-holds (λ c. omega arith) (λ c. omega arith) (λ c. omega arith) (λ c. omega arith)
+    (λ c. omega arith) (λ c. omega arith) (λ c. omega arith) (λ c. omega arith) (λ c. omega arith) (λ c. omega arith) (λ c. omega arith)
+    (λ c κs. search needs) (λ c. omega arith) (λ c. omega arith) loop-again (λ c. omega arith) (λ c. omega arith) pairs-again returns
+    returns-2)

@@ -17,19 +17,8 @@ Inv-loop t n₀ n = (n ≤ nexuses) × (nexusesFit n (nexuses - n) (drop (nexuse
 abbrev μ-loop : tie.MeasureT-loop
 μ-loop t n₀ n = nexuses - n
 
-pub nexuses-fit-spec : {M : Type 1} → statement M
-nexuses-fit-spec =
-    tie.close
-    (tie.spec
-    Inv-loop
-    μ-loop
-    (λ c. (omega arith, refl))
-    (λ c. omega arith)
-    (λ c. omega arith)
-    (λ c κs. omega arith)
-    (λ c. omega arith)
-    (λ c κs. search needs)
-    (λ c.
+returns : tie.Need-returns Inv-loop μ-loop
+returns c =
     let at = c .before .before .before .before in
     let fits = c .before .nexus-fits in
     (rw (
@@ -38,10 +27,10 @@ nexuses-fit-spec =
       ← fits .ensures,
       not-true (fits .result) (c .if1 .taken),
     )
-    at (at .loop .inv .1)))
-    (λ c. omega arith)
-    (λ c. omega arith)
-    (λ c.
+    at (at .loop .inv .1))
+
+loop-again : tie.Need-loop-again Inv-loop μ-loop
+loop-again c =
     let at = c .before .before .before .before in
     let fits = c .before .nexus-fits in (
       omega arith,
@@ -52,8 +41,17 @@ nexuses-fit-spec =
         not-false (fits .result) (c .if1 .left),
       )
           at (at .loop .inv .1)),
-    ))
-    (λ c.
+    )
+
+returns-2 : tie.Need-returns-2 Inv-loop μ-loop
+returns-2 c =
     let turn = c .before .loop in
     let all : nexuses - turn .n ≡ 0 = omega arith in
-    (rw (all, nexuses-end) at (turn .inv .1))))
+    (rw (all, nexuses-end) at (turn .inv .1))
+
+pub nexuses-fit-spec : {M : Type 1} → statement M
+nexuses-fit-spec =
+    tie.close
+    (tie.spec
+    Inv-loop μ-loop (λ c. (omega arith, refl)) (λ c. omega arith) (λ c. omega arith) (λ c κs. omega arith) (λ c. omega arith)
+    (λ c κs. search needs) returns (λ c. omega arith) (λ c. omega arith) loop-again returns-2)

@@ -23,27 +23,16 @@ Inv-loop t n keys₀ i₀ keys i = Noted t n keys₀ keys i
 abbrev μ-loop : tie.MeasureT-loop
 μ-loop t n keys₀ i₀ keys i = n - i
 
-pub note-keys-spec : {M : Type 1} → statement M
+loop-holds : tie.Need-loop-holds Inv-loop μ-loop
 unfolding keysFrom
-note-keys-spec =
-    tie.close
-    (tie.spec
-    Inv-loop
-    μ-loop
-    (λ c.
+loop-holds c =
     let n = c .before .args .n in
     let all : n - 0 ≡ n = omega arith in
-    record { long = c .before .pre .2; passed = omega arith; rest = rw all })
-    (λ c. omega arith)
-    (λ c. omega arith)
-    (λ c κs. omega arith)
-    (λ c κs. search needs)
-    (λ c κs. search needs)
-    (λ c. omega arith)
-    (λ c. omega arith)
-    (λ c. omega arith)
-    (λ c. omega arith)
-    (λ c.
+    record { long = c .before .pre .2; passed = omega arith; rest = rw all }
+
+loop-again : tie.Need-loop-again Inv-loop μ-loop
+unfolding keysFrom
+loop-again c =
     let turn = c .before .before .before .before .loop in
     let args = c .before .before .before .before .before .before .args in
     let n = args .n in
@@ -61,10 +50,21 @@ note-keys-spec =
             c .before .before .get-tagged .ensures,
           )
           (rw (keys-next (args .t .now) n i h) at (turn .inv .rest));
-    })
-    (λ c.
+    }
+
+returns : tie.Need-returns Inv-loop μ-loop
+unfolding keysFrom
+returns c =
     let turn = c .before .loop in
     let n = c .before .before .before .args .n in
     let all : turn .i ≡ n = omega (arith, turn .inv .passed) in
     let none : n - n ≡ 0 = omega arith in
-    sym (take-append-drop n (turn .keys)) ∙ (rw (all, none) at (turn .inv .rest))))
+    sym (take-append-drop n (turn .keys)) ∙ (rw (all, none) at (turn .inv .rest))
+
+pub note-keys-spec : {M : Type 1} → statement M
+unfolding keysFrom
+note-keys-spec =
+    tie.close
+    (tie.spec
+    Inv-loop μ-loop loop-holds (λ c. omega arith) (λ c. omega arith) (λ c κs. omega arith) (λ c κs. search needs) (λ c κs. search needs)
+    (λ c. omega arith) (λ c. omega arith) (λ c. omega arith) (λ c. omega arith) loop-again returns)

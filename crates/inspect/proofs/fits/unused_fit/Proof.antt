@@ -20,20 +20,8 @@ Inv-loop t n unlike₀ i₀ unlike i =
 abbrev μ-loop : tie.MeasureT-loop
 μ-loop t n unlike₀ i₀ unlike i = places - i
 
-pub unused-fit-spec : {M : Type 1} → statement M
-unused-fit-spec =
-    tie.close
-    (tie.spec
-    Inv-loop
-    μ-loop
-    (λ c. (omega arith, refl))
-    (λ c. omega arith)
-    (λ c. omega arith)
-    (λ c κs. omega arith)
-    (λ c κs. search needs)
-    (λ c. omega arith)
-    (λ c. omega arith)
-    (λ c.
+loop-again : tie.Need-loop-again Inv-loop μ-loop
+loop-again c =
     let turn = c .before .before .before .loop in
     let t = c .before .before .before .before .before .args .t .now in (
       omega arith,
@@ -45,8 +33,17 @@ unused-fit-spec =
         ← no-bit-of-two (turn .unlike) (c .unlike-unused .result),
       )
           at (turn .inv .1)),
-    ))
-    (λ c.
+    )
+
+returns : tie.Need-returns Inv-loop μ-loop
+returns c =
     let turn = c .before .loop in
     let all : places - turn .i ≡ 0 = omega arith in
-    sym (and-true (eqb (turn .unlike) 0)) ∙ (rw (all, unused-end) at (turn .inv .1))))
+    sym (and-true (eqb (turn .unlike) 0)) ∙ (rw (all, unused-end) at (turn .inv .1))
+
+pub unused-fit-spec : {M : Type 1} → statement M
+unused-fit-spec =
+    tie.close
+    (tie.spec
+    Inv-loop μ-loop (λ c. (omega arith, refl)) (λ c. omega arith) (λ c. omega arith) (λ c κs. omega arith) (λ c κs. search needs)
+    (λ c. omega arith) (λ c. omega arith) loop-again returns)

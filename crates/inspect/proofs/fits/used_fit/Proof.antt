@@ -18,22 +18,14 @@ Inv-loop t n aca o₀ i₀ o i = (i ≤ n) × (usedFit (n - i) aca o (drop (task
 abbrev μ-loop : tie.MeasureT-loop
 μ-loop t n aca o₀ i₀ o i = n - i
 
-pub used-fit-spec : {M : Type 1} → statement M
+loop-holds : tie.Need-loop-holds Inv-loop μ-loop
 unfolding usedFit
-used-fit-spec =
-    tie.close
-    (tie.spec
-    Inv-loop
-    μ-loop
-    (λ c κs. search needs)
-    (λ c. let n = c .before .before .args .n in let all : n - 0 ≡ n = omega arith in (omega arith, rw (all, c .no-older .ensures)))
-    (λ c. omega arith)
-    (λ c. omega arith)
-    (λ c κs. omega arith)
-    (λ c κs. search needs)
-    (λ c. omega arith)
-    (λ c κs. search needs)
-    (λ c.
+loop-holds c =
+    let n = c .before .before .args .n in let all : n - 0 ≡ n = omega arith in (omega arith, rw (all, c .no-older .ensures))
+
+returns : tie.Need-returns Inv-loop μ-loop
+unfolding usedFit
+returns c =
     let at = c .before .before .before .before .before in
     let args = at .before .before .before .args in
     let fits = c .before .fits2 in
@@ -45,9 +37,11 @@ used-fit-spec =
       not-true (fits .result) (c .if1 .taken),
       and-off,
     )
-    at (at .loop .inv .1)))
-    (λ c κs. search needs)
-    (λ c.
+    at (at .loop .inv .1))
+
+returns-2 : tie.Need-returns-2 Inv-loop μ-loop
+unfolding usedFit
+returns-2 c =
     let at = c .before .before .before .before .before .before .before in
     let args = at .before .before .before .args in
     let good = c .before .task-fits in
@@ -57,11 +51,11 @@ used-fit-spec =
       ← good .ensures,
       not-true (good .result) (c .if2 .taken),
     )
-    at (at .loop .inv .1)))
-    (λ c κs. search needs)
-    (λ c. omega arith)
-    (λ c. omega arith)
-    (λ c.
+    at (at .loop .inv .1))
+
+loop-again : tie.Need-loop-again Inv-loop μ-loop
+unfolding usedFit
+loop-again c =
     let at = c .before .before .before .before .before .before .before .before in
     let args = at .before .before .before .args in
     let good = c .before .before .task-fits in
@@ -79,8 +73,20 @@ used-fit-spec =
             not-false (fits .result) (c .before .before .before .if1 .left),
           )
           at (at .loop .inv .1)),
-    ))
-    (λ c.
+    )
+
+returns-3 : tie.Need-returns-3 Inv-loop μ-loop
+unfolding usedFit
+returns-3 c =
     let turn = c .before .loop in
     let none : c .before .before .before .before .args .n - turn .i ≡ 0 = omega arith in
-    (rw none at (turn .inv .1))))
+    (rw none at (turn .inv .1))
+
+pub used-fit-spec : {M : Type 1} → statement M
+unfolding usedFit
+used-fit-spec =
+    tie.close
+    (tie.spec
+    Inv-loop μ-loop (λ c κs. search needs) loop-holds (λ c. omega arith) (λ c. omega arith) (λ c κs. omega arith) (λ c κs. search needs)
+    (λ c. omega arith) (λ c κs. search needs) returns (λ c κs. search needs) returns-2 (λ c κs. search needs) (λ c. omega arith)
+    (λ c. omega arith) loop-again returns-3)

@@ -8,8 +8,6 @@ unfolding complete
 complete-spec =
     tie.close
     (tie.spec
-    (λ c. search needs)
-    (λ c. search needs)
-    (λ c κs. search needs)
+    (λ c. search needs) (λ c. search needs) (λ c κs. search needs)
     (λ c. simp (c .enum-told .given .1))
     (λ c. simp (c .complete-here .ensures, c .before .before .found .given .1)))

@@ -8,7 +8,6 @@ unfolding complete
 complete-here-spec =
     tie.close
     (tie.spec
-    (λ c κs. search needs)
-    (λ c κs. search needs)
+    (λ c κs. search needs) (λ c κs. search needs)
     (λ c. simp (c .finish .ensures, c .before .if1 .taken, ← c .before .before .is-enabled .ensures))
     (λ c. simp (c .if1 .left, ← c .before .is-enabled .ensures)))

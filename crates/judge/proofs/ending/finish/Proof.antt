@@ -6,12 +6,7 @@ pub finish-spec : {M : Type 1} → statement M
 finish-spec =
     tie.close
     (tie.spec
-    (λ c. search needs)
-    (λ c κs. search needs)
-    (λ c. search needs)
-    (λ c κs. search needs)
-    (λ c κs. search needs)
-    (λ c κs. search needs)
+    (λ c. search needs) (λ c κs. search needs) (λ c. search needs) (λ c κs. search needs) (λ c κs. search needs) (λ c κs. search needs)
     (λ c κs. search needs)
     (λ c. simp (c .run-next .ensures, c .before .enum-told .given .1))
     (λ c. simp (c .told-by-qerr .ensures, c .before .with-aca .ensures, c .before .before .aca-after .ensures, c .before .before .before .run-next2 .ensures, c .before .before .before .before .enum-told2 .given .1)))

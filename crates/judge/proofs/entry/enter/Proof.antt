@@ -10,13 +10,9 @@ unfolding enter
 enter-spec =
     tie.close
     (tie.spec
-    (λ c κs. search needs)
-    (λ c κs. search needs)
+    (λ c κs. search needs) (λ c κs. search needs)
     (λ c. simp (c .sweeping-by .ensures, c .before .checked-with .ensures, c .before .before .if1 .taken))
-    (λ c κs. search needs)
-    (λ c κs. search needs)
-    (λ c κs. search needs)
-    (λ c κs. search needs)
+    (λ c κs. search needs) (λ c κs. search needs) (λ c κs. search needs) (λ c κs. search needs)
     (λ c.
     let a = c .before .before .before .before .before .before .args in
     rw (c .ended-with .ensures, c .before .held-status .ensures, c .before .before .before .before .before .if1 .left)

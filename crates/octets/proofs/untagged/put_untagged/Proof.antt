@@ -16,14 +16,9 @@ pub put-untagged-spec : {M : Type 1} → statement M
 put-untagged-spec =
     tie.close
     (tie.spec
-    Inv-loop
-    μ-loop
+    Inv-loop μ-loop
     (λ c. put-begins (search needs) (c .pre))
-    (λ c. search needs)
-    (λ c. omega arith)
-    (λ c. omega arith)
-    (λ c. search needs)
-    (λ c. search needs)
+    (λ c. search needs) (λ c. omega arith) (λ c. omega arith) (λ c. search needs) (λ c. search needs)
     (λ c. put-on (c .before .loop .inv) (omega arith))
     (λ c. c .before .loop .inv .long)
     (λ c. put-ends (c .before .loop .inv) (omega arith)))

@@ -24,15 +24,9 @@ Inv-loop table₀ report₀ events out₀ n at₀ i₀ table report out at i = T
 abbrev μ-loop : tie.MeasureT-loop
 μ-loop table₀ report₀ events out₀ n at₀ i₀ table report out at i = n - i
 
-pub play-spec : {M : Type 1} → statement M
+loop-holds : tie.Need-loop-holds Inv-loop μ-loop
 unfolding played
-play-spec =
-    tie.close
-    (tie.spec
-    Inv-loop
-    μ-loop
-    (λ c. omega arith)
-    (λ c.
+loop-holds c =
     let args = c .before .before .before .before .args in
     record {
       played-on = begun (pieces (length (args .events .now))) (args .table .now) (args .report .now) (args .events .now);
@@ -41,19 +35,17 @@ play-spec =
       out-long = refl;
       room = omega arith;
       passed = omega arith;
-    })
-    (λ c. omega arith)
-    (λ c. omega arith)
-    (λ c κs. search needs)
-    (λ c. omega (arith, c .before .before .least .ensures))
-    (λ c. omega (arith, c .before .before .least .ensures))
-    (λ c. omega (arith, c .before .before .least .ensures))
-    (λ c κs.
+    }
+
+play-one-requires : tie.Need-play-one-requires Inv-loop μ-loop
+unfolding played
+play-one-requires c κs =
     let turn = c .before .before .before .before .before .before in
-    omega (arith, turn .loop .inv .room, turn .loop .inv .out-long, turn .before .before .before .before .before .pre))
-    (λ c. omega arith)
-    (λ c. omega arith)
-    (λ c.
+    omega (arith, turn .loop .inv .room, turn .loop .inv .out-long, turn .before .before .before .before .before .pre)
+
+loop-again : tie.Need-loop-again Inv-loop μ-loop
+unfolding played
+loop-again c =
     let passed = c .before .before .before .before .before .before in
     let least = passed .before .before .before .before .before in
     let turn = least .before .before in
@@ -71,11 +63,11 @@ play-spec =
       out-long = one .ensures .text .long ∙ inv .out-long;
       room = omega (arith, one .ensures .short);
       passed = omega arith;
-    })
-    (λ c. c .before .loop .inv .table-long)
-    (λ c. c .before .loop .inv .report-long)
-    (λ c. c .before .loop .inv .out-long)
-    (λ c.
+    }
+
+returns : tie.Need-returns Inv-loop μ-loop
+unfolding played
+returns c =
     let loop = c .before .loop in
     let inv = loop .inv in
     let args = c .before .before .before .before .before .before .args in
@@ -87,4 +79,14 @@ play-spec =
       table = ap (λ (p : Run). p .table) all;
       report = ap (λ (p : Run). p .report) all;
       within = counts (loop .at) (loop .out) (omega (arith, inv .room, inv .out-long, c .before .before .before .before .before .before .pre));
-    }))
+    }
+
+pub play-spec : {M : Type 1} → statement M
+unfolding played
+play-spec =
+    tie.close
+    (tie.spec
+    Inv-loop μ-loop (λ c. omega arith) loop-holds (λ c. omega arith) (λ c. omega arith) (λ c κs. search needs)
+    (λ c. omega (arith, c .before .before .least .ensures)) (λ c. omega (arith, c .before .before .least .ensures))
+    (λ c. omega (arith, c .before .before .least .ensures)) play-one-requires (λ c. omega arith) (λ c. omega arith) loop-again
+    (λ c. c .before .loop .inv .table-long) (λ c. c .before .loop .inv .report-long) (λ c. c .before .loop .inv .out-long) returns)

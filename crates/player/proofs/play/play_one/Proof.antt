@@ -6,11 +6,7 @@ pub play-one-spec : {M : Type 1} → statement M
 play-one-spec =
     tie.close
     (tie.spec
-    (λ c κs. search needs)
-    (λ c κs. search needs)
-    (λ c. search needs)
-    (λ c. search needs)
-    (λ c. search needs)
+    (λ c κs. search needs) (λ c κs. search needs) (λ c. search needs) (λ c. search needs) (λ c. search needs)
     (λ c.
     let applied = c .before .before .before .before .before .before .before .before .dedakhumi-apply .ensures in
     let written = c .before .before .put-line .ensures in

@@ -6,7 +6,6 @@ pub asked-from-spec : {M : Type 1} → statement M
 asked-from-spec =
     tie.close
     (tie.spec
-    (λ c κs. search needs)
-    (λ c κs. search needs)
+    (λ c κs. search needs) (λ c κs. search needs)
     (λ c. simp (c .attribute-from .ensures, c .before .if1 .taken, ← c .before .before .attribute-fits .ensures))
     (λ c. simp (c .if1 .left, ← c .before .attribute-fits .ensures)))

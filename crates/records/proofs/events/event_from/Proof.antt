@@ -9,10 +9,7 @@ unfolding eventFrom
 event-from-spec =
     tie.close
     (tie.spec
-    (λ c κs. search needs)
-    (λ c κs. search needs)
-    (λ c κs. search needs)
-    (λ c κs. search needs)
+    (λ c κs. search needs) (λ c κs. search needs) (λ c κs. search needs) (λ c κs. search needs)
     (λ c. simp (c .command-from .ensures, c .before .match .keys1))
     (λ c. simp (c .completion-from .ensures, c .before .match .keys2))
     (λ c. simp (c .management-from .ensures, c .before .match .keys3))

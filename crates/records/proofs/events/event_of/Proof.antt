@@ -14,21 +14,13 @@ event-of-spec =
     tie.close
     (tie.spec
     (λ c. simp (ne-eqb _ _ (c .if1 .taken)))
-    (λ c κs. search needs)
-    (λ c. search needs)
-    (λ c. search needs)
-    (λ c κs. search needs)
+    (λ c κs. search needs) (λ c. search needs) (λ c. search needs) (λ c κs. search needs)
     (λ c.
     let mark = c .before .is-mark in
     let read = c .before .before in
     let whole = read .get-tagged .ensures ∙ take-all eventSize (read .before .before .before .args .e .now) (omega arith) in
     rw (eq-eqb _ _ (read .before .if1 .left), ← whole, ← mark .ensures, not-true (mark .result) (c .if2 .taken)))
-    (λ c. search needs)
-    (λ c. search needs)
-    (λ c. search needs)
-    (λ c. search needs)
-    (λ c κs. search needs)
-    (λ c κs. search needs)
+    (λ c. search needs) (λ c. search needs) (λ c. search needs) (λ c. search needs) (λ c κs. search needs) (λ c κs. search needs)
     (λ c.
     let marked = c .before .before in
     let mark = marked .before .is-mark in

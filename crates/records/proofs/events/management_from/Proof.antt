@@ -6,6 +6,5 @@ pub management-from-spec : {M : Type 1} → statement M
 management-from-spec =
     tie.close
     (tie.spec
-    (λ c κs. search needs)
-    (λ c κs. search needs)
+    (λ c κs. search needs) (λ c κs. search needs)
     (λ c. simp (c .read-if .ensures, c .before .function-from .ensures)))

@@ -6,6 +6,5 @@ pub policy-from-spec : {M : Type 1} → statement M
 policy-from-spec =
     tie.close
     (tie.spec
-    (λ c κs. search needs)
-    (λ c κs. search needs)
+    (λ c κs. search needs) (λ c κs. search needs)
     (λ c. simp (c .bit-of .ensures, c .before .qerr-from .ensures)))

@@ -7,9 +7,7 @@ pub nexus-fits-spec : {M : Type 1} → statement M
 nexus-fits-spec =
     tie.close
     (tie.spec
-    (λ c κs. search needs)
-    (λ c. search needs)
-    (λ c. search needs)
+    (λ c κs. search needs) (λ c. search needs) (λ c. search needs)
     (λ c.
     let a = c .before .args in
     nexus-word (a .r) (c .word-of .result) (c .word-of .ensures) (a .n) (c .before .fits .n .fits)))

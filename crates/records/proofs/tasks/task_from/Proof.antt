@@ -6,11 +6,6 @@ pub task-from-spec : {M : Type 1} → statement M
 task-from-spec =
     tie.close
     (tie.spec
-    (λ c. search needs)
-    (λ c. search needs)
-    (λ c κs. search needs)
-    (λ c. search needs)
-    (λ c κs. search needs)
-    (λ c. search needs)
+    (λ c. search needs) (λ c. search needs) (λ c κs. search needs) (λ c. search needs) (λ c κs. search needs) (λ c. search needs)
     (λ c κs. search needs)
     (λ c. simp (c .tag-in .ensures, c .before .state-from .ensures, c .before .before .attribute-from .ensures)))

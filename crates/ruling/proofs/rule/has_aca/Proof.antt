@@ -11,11 +11,7 @@ pub has-aca-spec : {M : Type 1} → statement M
 has-aca-spec =
     tie.close
     (tie.spec
-    (λ c. search needs)
-    (λ c. search needs)
-    (λ c κs. search needs)
-    (λ c κs. search needs)
-    (λ c. search needs)
+    (λ c. search needs) (λ c. search needs) (λ c κs. search needs) (λ c κs. search needs) (λ c. search needs)
     (λ c.
     let a = c .before .before .before .before .before .args in
     rw (c .before .before .enum-told2 .given .1, c .is-here .ensures, c .before .search .ensures)

@@ -10,12 +10,7 @@ rule-spec =
     (tie.spec
     (λ c. search needs)
     (λ c κs. let p = c .before .before .before .before .pre in (p .0, p .1, rw (c .before .e .given .1) at (p .2)))
-    (λ c. search needs)
-    (λ c κs. search needs)
-    (λ c. search needs)
-    (λ c κs. search needs)
-    (λ c. search needs)
-    (λ c κs. search needs)
+    (λ c. search needs) (λ c κs. search needs) (λ c. search needs) (λ c κs. search needs) (λ c. search needs) (λ c κs. search needs)
     (λ c. rw (c .before .before .e .given .1) (c .rule-command .ensures))
     (λ c. rw (c .before .before .e2 .given .1) (c .rule-completion .ensures))
     (λ c. rw (c .before .before .e3 .given .1) (c .manage .ensures))
