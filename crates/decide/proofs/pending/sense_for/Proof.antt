@@ -7,8 +7,4 @@ sense-for-spec =
     tie.close
     (tie.spec
     (λ c. search needs) (λ c. search needs) (λ c. search needs) (λ c. search needs) (λ c. search needs)
-    (λ c. simp (c .enum-told .given .1))
-    (λ c. simp (c .enum-told2 .given .1))
-    (λ c. simp (c .enum-told3 .given .1))
-    (λ c. simp (c .enum-told4 .given .1))
-    (λ c. simp (c .enum-told5 .given .1)))
+    (λ c. cc) (λ c. cc) (λ c. cc) (λ c. cc) (λ c. cc))
