@@ -11,11 +11,11 @@ use lib.ListN.{length}
 use borrow.Author.Tests.{lt-ltb, le-leb, lt-leb}
 use Rattle.laws.specs.Lists.{any, passing}
 use Rattle.laws.proofs.Bools.{cases}
-use Rattle.rules.specs.Types.{Task, Entry, Command, NoBit, Ended, NexusTasks, Done, Changes}
+use Rattle.rules.specs.Types.{Task, Entry, Command, NoBit, Ended, NexusTasks, EndedAtEntry, Done}
 use Rattle.rules.specs.Tasks.{acaTask, ofNexus, same}
 use Rattle.rules.specs.Bits.{top}
 use Rattle.rules.specs.Rulings.{State, pendingOf, endIf, fateOf, endedFrom, taskName}
-use Rattle.rules.specs.Rules.{sweeping, endedWith, checked, check2, badAttribute, check5, accepting, firstThatRules, enter, ruleFor, ruling, step, answer, report}
+use Rattle.rules.specs.Rules.{sense, endedWith, checkCondition, check2, bitToReport, badAttribute, check5, byChecks, enter, ruleFor, ruling, step, answer, report}
 use Rattle.rules.specs.Well.{WellFormed}
 use Rattle.rules.proofs.Fates.{kept-others, ended-gone}
 use Rattle.rules.proofs.Distinct.{any-restate, map-restate}
@@ -29,12 +29,12 @@ pub record Overlapped (s : State) (c : Entry) : Type 0 where
 
 overlapped-ruling :
     (s : State) (c : Entry) → Overlapped s c
-    → ruling s (Command c) ≡ Changes (checked 0xB 0x4E 0x00) (sweeping (s .header) (NexusTasks (c .nexus)))
+    → ruling s (Command c) ≡ checkCondition (s .header) c (sense 0xB 0x4E 0x00) (NexusTasks (c .nexus)) NoBit
 unfolding ruling ruleFor enter
 overlapped-ruling s c o = rw (lt-ltb (c .nexus) 8 (o .low), o .here)
 
 -- "CHECK CONDITION 02h, sense Bh/4Eh/00h"
-pub overlapped-answer : (s : State) (c : Entry) → Overlapped s c → answer s (Command c) ≡ checked 0xB 0x4E 0x00
+pub overlapped-answer : (s : State) (c : Entry) → Overlapped s c → answer s (Command c) ≡ EndedAtEntry 0x02 (sense 0xB 0x4E 0x00)
 unfolding answer
 overlapped-answer s c o = rw (overlapped-ruling s c o)
 
@@ -92,12 +92,12 @@ pub record Passes (s : State) (c : Entry) : Type 0 where
 
 passed-ruling :
     (s : State) (c : Entry) → Passes s c
-    → ruling s (Command c) ≡ firstThatRules (check5 (s .header) ∷ []) (Changes Done (accepting (s .header) c))
+    → ruling s (Command c) ≡ byChecks (check5 (s .header) ∷ []) (s .header) c
 unfolding ruling ruleFor enter
 passed-ruling s c p =
     rw (lt-ltb (c .nexus) 8 (p .low), p .not-overlapped, p .aca-lets-it, quiet (p .no-attention), p .attribute-good)
   where
-    quiet : (c .exempt ≡ true) ⊎ (top (pendingOf s (c .nexus)) ≡ NoBit) → cond (c .exempt) NoBit (top (pendingOf s (c .nexus))) ≡ NoBit
+    quiet : (c .exempt ≡ true) ⊎ (top (pendingOf s (c .nexus)) ≡ NoBit) → bitToReport c (pendingOf s (c .nexus)) ≡ NoBit
     quiet (inl e) = rw e
     quiet (inr e) = cases (λ o. o ≡ NoBit) (c .exempt) (λ h. refl) (λ h. e)
 

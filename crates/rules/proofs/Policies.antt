@@ -40,7 +40,7 @@ module _ (s : State) where
   policy-survives e =
       other-cases (λ v r. survives r) s (λ v. refl)
       (λ n g f. completion-cases survives s n g f refl refl refl (λ t l h k. by-finish f t _))
-      (λ c l. enter-cases survives (s .header) c _ _ _ refl (λ st se. refl) (λ b. refl) (λ p q r k. refl))
+      (λ c l. enter-cases survives (s .header) c _ _ _ (λ se w o. refl) (λ st. refl) (λ p. refl))
       by-function
       by-condition
       e
