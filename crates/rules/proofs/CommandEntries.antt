@@ -1,4 +1,4 @@
--- Laws of a command's entry, for every state: the overlapped command (check 1) and the full task set (check 5).
+-- Laws of a command's entry, for every state: the overlapped command (check 1), the bad attribute (check 4) and the full task set (check 5).
 use Prim.Native.Nat.{ℕ, _<_}
 use mathlib.Core.Bool.{Bool, true, false, cond, not}
 use mathlib.Core.Path.{_≡_, refl, ap}
@@ -6,19 +6,23 @@ use mathlib.Core.List.{List, [], _∷_, map, append-nil}
 use mathlib.Core.Option.{none}
 use mathlib.Core.Logic.{_⊎_, inl, inr}
 use native.Mathlib.Omega.{arith}
-use lib.Dec.{eqb}
+use lib.Dec.{eqb, ltb}
 use lib.ListN.{length}
 use borrow.Author.Tests.{lt-ltb, le-leb, lt-leb}
 use Rattle.laws.specs.Lists.{any, passing}
 use Rattle.laws.proofs.Bools.{cases}
-use Rattle.rules.specs.Types.{Task, Entry, Command, NoBit, Ended, NexusTasks, EndedAtEntry, Done}
-use Rattle.rules.specs.Tasks.{acaTask, ofNexus, same}
-use Rattle.rules.specs.Bits.{top}
-use Rattle.rules.specs.Rulings.{State, pendingOf, endIf, fateOf, endedFrom, taskName}
+use Rattle.rules.specs.Types.{Task, Entry, Command, Allegiance, Clear, Faulted, Bit, NoBit, Sense, Ended, Nobody, NexusTasks, EndedAtEntry, Done, Ruling}
+use Rattle.rules.specs.Tasks.{acaTask, ofNexus, same, restate}
+use Rattle.rules.specs.Bits.{top, senseFor}
+use Rattle.rules.specs.Rulings.{State, pendingOf, endIf, kept, fateOf, answerOf, ruled, endedFrom, reportOf, taskName}
 use Rattle.rules.specs.Rules.{sense, endedWith, checkCondition, check2, bitToReport, badAttribute, check5, byChecks, enter, ruleFor, ruling, step, answer, report}
-use Rattle.rules.specs.Well.{WellFormed}
+use Rattle.rules.specs.Well.{WellFormed, statesFit}
 use Rattle.rules.proofs.Fates.{kept-others, ended-gone}
 use Rattle.rules.proofs.Distinct.{any-restate, map-restate}
+use Rattle.rules.proofs.Settled.{settle-settled}
+use Rattle.rules.proofs.Cases.{stop, check-cases}
+use Rattle.rules.proofs.WellSays.{says-tested}
+use Rattle.rules.proofs.Attentions.{every-bit}
 
 -- Overlapped -------------------------------------------------------------------------------------------------------------------------------
 
@@ -79,6 +83,56 @@ overlapped-ends-no-other s c o =
           )
           (ap (map taskName) (kept-others (ofNexus (c .nexus)) 0xFF (s .tasks)));
     }
+
+-- Attribute --------------------------------------------------------------------------------------------------------------------------------
+
+all-stay : (ts : List Task) → kept (map (fateOf Nobody) ts) ts ≡ ts
+all-stay [] = refl
+all-stay (t ∷ ts) = rw (all-stay ts)
+
+nobody-ends : (ts : List Task) → endedFrom (map (fateOf Nobody) ts) ts ≡ []
+nobody-ends [] = refl
+nobody-ends (t ∷ ts) = nobody-ends ts
+
+restate-same : (a : Allegiance) (ts : List Task) → statesFit a ts ≡ true → restate a a ts ≡ ts
+restate-same Clear ts e = settle-settled [] ts e
+restate-same (Faulted f) ts e = refl
+
+-- a check with no sweep and no bit of its own leaves a well-formed state as it was, and nobody is reported
+nothing-changes :
+    (s : State) (c : Entry) (se : Sense) → WellFormed s
+    → (ruled s (checkCondition (s .header) c se Nobody NoBit) ≡ s) × (reportOf s (checkCondition (s .header) c se Nobody NoBit) ≡ [])
+nothing-changes s c se w = (
+  rw (all-stay (s .tasks), append-nil (s .tasks), restate-same (s .header .aca) (s .tasks) (says-tested s w .states), ← (w .counted)),
+  nobody-ends (s .tasks),
+)
+
+key-of : {st : ℕ} {se : Sense} → EndedAtEntry st se ≡ EndedAtEntry 0x02 (sense 0x5 0x49 0x00) → se .key ≡ 0x5
+key-of {st} {se} e = let z : se ≡ sense 0x5 0x49 0x00 = cc in ap (λ x. x .key) z
+
+-- of check 3: "02h with 6h/code"
+key-six : (b : Bit) → (senseFor b) .key ≡ 0x6
+key-six = every-bit (λ b. (senseFor b) .key ≡ 0x6) refl refl refl refl refl
+
+abbrev Unchanged : State → Ruling → Type 0
+Unchanged s r = answerOf r ≡ EndedAtEntry 0x02 (sense 0x5 0x49 0x00) → (ruled s r ≡ s) × (reportOf s r ≡ [])
+
+-- "4. Attribute not 0, 1, 2, 4, or 4 without ACA: 02h, 5h/49h/00h": a command that is answered so changes nothing
+pub bad-attribute-changes-nothing :
+    (s : State) (c : Entry) → WellFormed s → answer s (Command c) ≡ EndedAtEntry 0x02 (sense 0x5 0x49 0x00)
+    → (step s (Command c) ≡ s) × (report s (Command c) ≡ [])
+unfolding answer step report ruling ruleFor
+bad-attribute-changes-nothing s c w =
+    cases (Unchanged s) (ltb (c .nexus) 8)
+    (λ l.
+    check-cases (Unchanged s) (s .header) c (any (same (c .nexus) (c .tag)) (s .tasks)) (any acaTask (s .tasks)) (pendingOf s (c .nexus))
+    (stop (λ y e. absurd (omega (arith, key-of e))) λ n1.
+    stop (λ f a y k e. (refl, refl), λ f a y e. (refl, refl)) λ n2.
+    stop (λ b y e. absurd (omega (arith, key-of e, key-six b))) λ n3.
+    stop (λ y e. nothing-changes s c (sense 0x5 0x49 0x00) w) λ n4.
+    stop (λ y e. (refl, refl)) λ n5 e.
+    absurd (let z : _≡_ {A = ℕ} 0 1 = cc in omega arith)))
+    (λ l e. (refl, refl))
 
 -- Full -------------------------------------------------------------------------------------------------------------------------------------
 
