@@ -6,7 +6,6 @@ use records::header::header_bytes;
 use records::header::policy_fits;
 use records::header::policy_from;
 use records::nexus::nexus_bytes;
-use values::Allegiance;
 use values::Answer;
 use values::Header;
 ghost use mathlib.Core.Path.{_≡_};
@@ -33,12 +32,7 @@ fn write_fresh(t: &mut [u8], policy: u8)
     requires { ⌜ length (now t) ≡ 584 ⌝ }
     ensures { λ _. ⌜ now (t .exit) ≡ tableBytes (fresh (policyFrom policy)) ⌝ }
 {
-    let h = Header {
-        policy: policy_from(policy),
-        count: 0,
-        aca: Allegiance::Clear,
-        run: 0,
-    };
+    let h = Header::fresh(policy_from(policy));
     put8(t, 0, header_bytes(h));
     write_nexuses(t);
     vacate(t, 0, 64);
