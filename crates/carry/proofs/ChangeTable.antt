@@ -7,7 +7,7 @@ use native.Mathlib.Omega.{arith}
 use lib.ListN.{length, drop, set, length-append, take-append-drop}
 use Rattle.laws.specs.RecordsInLists.{recordAt, putAt}
 use Rattle.rules.specs.Tasks.{restate}
-use Rattle.values.specs.Headers.{withCount}
+use Rattle.values.specs.Headers.{lasting, withCount}
 use Rattle.rules.specs.Rulings.{State, kept, lost, fateOf, newcomers, noted, tasksAfter, ruled, reportOf}
 use Rattle.rules.specs.Well.{faultFits}
 use Rattle.rules.proofs.Distinct.{length-restate}
@@ -123,7 +123,7 @@ module _ (s : State) (c : Change) (eight : length (s .pending) ≡ 8) (few : len
       ∙ header-table restated (withCount (c .header) (length (tasksAfter s c)))
 
 -- the three bytes of a header that can change
-stored : (l rest : List ℕ) (was h : Header) → l ≡ headerBytes was ++ rest → was .policy ≡ h .policy
+stored : (l rest : List ℕ) (was h : Header) → l ≡ headerBytes was ++ rest → lasting was ≡ lasting h
     → set (set (set l 4 (h .count)) 5 (acaNumber (h .aca))) 6 (h .run) ≡ headerBytes h ++ rest
 stored l rest was h e p = rw (e, p)
 
@@ -131,7 +131,7 @@ pub header-stored :
     (t : List ℕ) (h : Header) (k : HeaderKept t h)
     → set (set (set t 4 (h .count)) 5 (acaNumber (h .aca))) 6 (h .run) ≡ putAt 8 t 0 (headerBytes h)
 header-stored t h k =
-    stored t (drop 8 t) (k .was) h (sym (take-append-drop 8 t) ∙ ap (λ (r : List ℕ). r ++ drop 8 t) (k .stands)) (k .policy)
+    stored t (drop 8 t) (k .was) h (sym (take-append-drop 8 t) ∙ ap (λ (r : List ℕ). r ++ drop 8 t) (k .stands)) (k .lasts)
 
 -- What the steps ask and give, where a change fits -----------------------------------------------------------------------------------------
 
@@ -197,7 +197,7 @@ module _ {t r : List ℕ} {n : ℕ} {before : Allegiance} {c : Change} (fits : C
                 em
                 e3
                 (rw (fits .aca) at e4);
-            policy = sym (fits .policy);
+            lasts = sym (fits .lasts);
           }
 
       pub changed :

@@ -1,5 +1,6 @@
--- The header with a part of it changed, and run after a turn (document 01, "Turn rule").
+-- What lasts of the header, the header with a part of it changed, and run after a turn (document 01, "Ends, ACA and aborts" and "Turn rule").
 --
+--   lasting h                        := what no event changes of the header
 --   lastingWith h n a r              := what lasts of h, with the count n, the allegiance a and the run r
 --   freshHeader p                    := the header of a fresh table under the policy p
 --   withCount, withAca, withRun h x  := the header with another count, allegiance, run
@@ -14,6 +15,9 @@ use Rattle.values.specs.declared.Policy.{Policy}
 use Rattle.values.specs.declared.Header.{Header}
 
 -- "Policy survives all."
+abbrev pub lasting : Header → Policy
+lasting h = h .policy
+
 abbrev pub lastingWith : Header → ℕ → Allegiance → ℕ → Header
 lastingWith h n a r = record { policy = h .policy; count = n; aca = a; run = r }
 
