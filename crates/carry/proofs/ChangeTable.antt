@@ -8,7 +8,7 @@ use lib.ListN.{length, drop, set, length-append, take-append-drop}
 use Rattle.laws.specs.RecordsInLists.{recordAt, putAt}
 use Rattle.octets.specs.Sizes.{headSize, tasksAt, tableSize, countOffset, acaOffset, runOffset}
 use Rattle.rules.specs.Tasks.{places, nexuses, restate}
-use Rattle.values.specs.Headers.{withCount}
+use Rattle.values.specs.Headers.{lasting, withCount}
 use Rattle.rules.specs.Rulings.{State, kept, lost, fateOf, newcomers, noted, tasksAfter, ruled, reportOf}
 use Rattle.rules.specs.Well.{faultFits}
 use Rattle.rules.proofs.Distinct.{length-restate}
@@ -124,7 +124,7 @@ module _ (cs : ℕ → ℕ) (s : State) (c : Change) (eight : length (s .pending
       ∙ header-table cs restated (withCount (c .header) (length (tasksAfter s c)))
 
 -- the three bytes of a header that can change
-stored : (l rest : List ℕ) (was h : Header) → l ≡ headerBytes was ++ rest → was .policy ≡ h .policy
+stored : (l rest : List ℕ) (was h : Header) → l ≡ headerBytes was ++ rest → lasting was ≡ lasting h
     → set (set (set l countOffset (h .count)) acaOffset (acaNumber (h .aca))) runOffset (h .run) ≡ headerBytes h ++ rest
 stored l rest was h e p = rw (e, p)
 
@@ -132,7 +132,7 @@ pub header-stored :
     (t : List ℕ) (h : Header) (k : HeaderKept t h)
     → set (set (set t countOffset (h .count)) acaOffset (acaNumber (h .aca))) runOffset (h .run) ≡ putAt headSize t 0 (headerBytes h)
 header-stored t h k =
-    stored t (drop headSize t) (k .was) h (sym (take-append-drop headSize t) ∙ ap (λ (r : List ℕ). r ++ drop headSize t) (k .stands)) (k .policy)
+    stored t (drop headSize t) (k .was) h (sym (take-append-drop headSize t) ∙ ap (λ (r : List ℕ). r ++ drop headSize t) (k .stands)) (k .lasts)
 
 -- What the steps ask and give, where a change fits -----------------------------------------------------------------------------------------
 
@@ -202,7 +202,7 @@ module _ {t r : List ℕ} {n : ℕ} {before : Allegiance} {c : Change} (fits : C
                 em
                 e3
                 (rw (fits .aca) at e4);
-            policy = sym (fits .policy);
+            lasts = sym (fits .lasts);
           }
 
       pub changed :

@@ -2,7 +2,7 @@
 --
 --   notedUnlessQuiet k ls b  := the nexus records after a notice, if there is one
 --   joinedBytes j k b        := a task that joins is put at place k
---   HeaderKept t h           := the table has a header record already, of the policy of h
+--   HeaderKept t h           := the table has a header record already, with what lasts of h
 use Prim.Native.Nat.{ℕ, _+_, _*_, _≤_}
 use mathlib.Core.Bool.{true}
 use mathlib.Core.Path.{_≡_}
@@ -10,6 +10,7 @@ use mathlib.Core.List.{List}
 use lib.ListN.{length}
 use Rattle.laws.specs.RecordsInLists.{recordAt, putAt}
 use Rattle.octets.specs.Sizes.{headSize, taskSize, tasksAt}
+use Rattle.values.specs.Headers.{lasting}
 use Rattle.rules.specs.Well.{faultFits}
 use Rattle.records.specs.Records.{headerBytes, taskBytes}
 use Rattle.steps.specs.Steps.{notedBytes}
@@ -33,4 +34,4 @@ pub record HeaderKept (t : List ℕ) (h : Header) : Type 0 where
   pub fault : faultFits (h .aca) ≡ true
   pub was : Header
   pub stands : recordAt headSize t 0 ≡ headerBytes was
-  pub policy : was .policy ≡ h .policy
+  pub lasts : lasting was ≡ lasting h

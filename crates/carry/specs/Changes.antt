@@ -6,6 +6,7 @@ use mathlib.Core.List.{List}
 use lib.ListN.{length}
 use Rattle.octets.specs.Sizes.{reportSize}
 use Rattle.rules.specs.Tasks.{places}
+use Rattle.values.specs.Headers.{lasting}
 use Rattle.rules.specs.Rulings.{ruled, reportOf}
 use Rattle.rules.specs.Well.{wellFormed}
 use Rattle.records.specs.Tables.{stateOf, tableBytes, reportBytes, goodTable}
@@ -16,7 +17,7 @@ pub record ChangeFits (t r : List ℕ) (n : ℕ) (before : Allegiance) (c : Chan
   pub report : length r ≡ reportSize
   pub counted : n ≡ (stateOf t) .header .count
   pub aca : before ≡ (stateOf t) .header .aca
-  pub policy : c .header .policy ≡ (stateOf t) .header .policy
+  pub lasts : lasting (c .header) ≡ lasting ((stateOf t) .header)
   pub well : wellFormed (ruled (stateOf t) (Changes Done c)) ≡ true
 
 pub record ChangedAs (t : List ℕ) (c : Change) (after rep : List ℕ) (m : ℕ) : Type 0 where

@@ -57,7 +57,7 @@ fn join(t: &mut [u8], k: usize, j: Joins) -> usize
     }
 }
 
-// The policy and the marks stand there already.
+// What lasts and the marks stand there already.
 fn put_header(t: &mut [u8], h: Header)
     requires { ⌜ HeaderKept (now t) h ⌝ }
     ensures { λ _. ⌜ now (t .exit) ≡ putAt headSize (now (t .entry)) 0 (headerBytes h) ⌝ }

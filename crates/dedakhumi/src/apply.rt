@@ -21,6 +21,7 @@ ghost use Prim.Native.Nat.{_<_};
 ghost use lib.ListN.{length, replicate};
 ghost use Rattle.octets.specs.Sizes.{reportSize};
 ghost use Rattle.rules.specs.Tasks.{nexuses};
+ghost use Rattle.values.specs.Headers.{lasting};
 ghost use Rattle.rules.specs.Rulings.{ruled};
 ghost use Rattle.rules.specs.Rules.{nexusOf, ruling};
 ghost use Rattle.rules.specs.Well.{wellFormed};
@@ -54,7 +55,7 @@ fn zero_if(report: &mut [u8], write: bool)
 }
 
 fn carry_out(t: &mut [u8], report: &mut [u8], h: Header, r: Ruling) -> Applied
-    requires { ⌜ (goodTable (now t) ≡ true) × (length (now report) ≡ reportSize) × (h ≡ (stateOf (now t)) .header) × (wellFormed (ruled (stateOf (now t)) r) ≡ true) × (ruled (stateOf (now t)) r .header .policy ≡ stateOf (now t) .header .policy) ⌝ }
+    requires { ⌜ (goodTable (now t) ≡ true) × (length (now report) ≡ reportSize) × (h ≡ (stateOf (now t)) .header) × (wellFormed (ruled (stateOf (now t)) r) ≡ true) × (lasting (ruled (stateOf (now t)) r .header) ≡ lasting (stateOf (now t) .header)) ⌝ }
     ensures { λ a. ⌜ AppliedAs (carried (now (t .entry)) (now (report .entry)) (stateOf (now (t .entry))) r) a (now (t .exit)) (now (report .exit)) ⌝ }
 {
     let aca = h.aca;

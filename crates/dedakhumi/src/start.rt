@@ -9,7 +9,6 @@ use records::header::header_bytes;
 use records::header::policy_fits;
 use records::header::policy_from;
 use records::nexus::nexus_bytes;
-use values::Allegiance;
 use values::Answer;
 use values::Header;
 use values::NEXUSES;
@@ -43,12 +42,7 @@ fn write_fresh(t: &mut [u8], policy: u8)
     requires { ⌜ length (now t) ≡ tableSize ⌝ }
     ensures { λ _. ⌜ now (t .exit) ≡ tableBytes (fresh (policyFrom policy)) ⌝ }
 {
-    let h = Header {
-        policy: policy_from(policy),
-        count: 0,
-        aca: Allegiance::Clear,
-        run: 0,
-    };
+    let h = Header::fresh(policy_from(policy));
     put_untagged(t, 0, header_bytes(h));
     write_nexuses(t);
     vacate(t, 0, PLACES);

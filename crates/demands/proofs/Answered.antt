@@ -46,7 +46,7 @@ complete-answers s (some t) f b = cases AnsweredAs (isEnabled (t .state)) (λ e.
 
 pub rule-answers : (s : State) (e : Event) → AnsweredAs (ruleFor s e)
 unfolding ruleFor
-rule-answers s (Command c) = enter-cases AnsweredAs (s .header) c _ _ _ refl (λ st se. refl) (λ b. refl) (λ a b d e. refl)
+rule-answers s (Command c) = enter-cases AnsweredAs (s .header) c _ _ _ (λ se w o. refl) (λ st. refl) (λ p. refl)
 rule-answers s (Completion n g f) = complete-answers s _ f _
 rule-answers s (Management n f) = manage-answers s n f
 rule-answers s (Condition c) = happen-answers s c

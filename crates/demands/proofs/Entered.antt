@@ -37,7 +37,7 @@ pub enters-rule : (s : State) (e : Event) → Enters e (ruling s e)
 unfolding ruling ruleFor
 enters-rule s (Command c) =
     cases (Enters (Command c)) (ltb (c .nexus) 8)
-    (λ l. enter-cases (Enters (Command c)) (s .header) c _ _ _ refl (λ st se. refl) (λ b. refl) (λ a b d e. refl))
+    (λ l. enter-cases (Enters (Command c)) (s .header) c _ _ _ (λ se w o. refl) (λ st. refl) (λ p. refl))
     (λ l. refl)
 enters-rule s (Completion n g f) = none-enters s (Completion n g f) refl
 enters-rule s (Management n f) = none-enters s (Management n f) refl

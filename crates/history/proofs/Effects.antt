@@ -140,9 +140,7 @@ effect s e w =
     completion-cases (EffectR s (Completion n g f)) s n g f (not-accepted s n g) (not-accepted s n g) (not-accepted s n g)
     (λ t l h k. effect-finish s n g f t w h k))
     (λ c l.
-    enter-cases (EffectR s (Command c)) (s .header) c _ _ _ (no-turn s _ (inl refl)) (λ st se. refl)
-    (λ b. no-turn s _ (inl refl))
-    (λ a b d e. no-turn s _ (inl refl)))
+    enter-cases (EffectR s (Command c)) (s .header) c _ _ _ (λ se v o. no-turn s _ (inl refl)) (λ st. refl) (λ p. no-turn s _ (inl refl)))
     (λ n f. effect-manage s n f)
     (λ c. effect-happen s c)
     e

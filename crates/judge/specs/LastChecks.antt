@@ -1,24 +1,17 @@
--- Checks 3 to 6 at entry, as code asks them.
+-- The checks at entry that are left, as code asks them: the tails of the one list.
 --
---   reporting h n b          := the ruling of check 3 on the bit b of nexus n
---   lastChecks h c           := checks 4 to 6
---   checksPastAca h c p      := checks 3 to 6
-use Prim.Native.Nat.{ℕ}
-use mathlib.Core.Bool.{cond}
-use mathlib.Core.List.{[], _∷_}
-use Rattle.rules.specs.Bits.{top, senseFor}
-use Rattle.rules.specs.Rules.{check3, check4, check5, accepting, firstThatRules}
-use Rattle.rules.specs.Types.{Entry, Header, Pending, Bit, NoBit, EndedAtEntry, Done, Nobody, NoTask, Reported, Ruling, Changes}
+--   checksPastAca h c p      := what the checks from 3 on come to
+--   lastChecks h c           := what those from 4 on come to
+use mathlib.Core.Bool.{false}
+use lib.ListN.{drop}
+use Rattle.rules.specs.Bits.{noPending}
+use Rattle.rules.specs.Rules.{checks, byChecks}
+use Rattle.rules.specs.Types.{Entry, Header, Pending, Ruling}
 
-abbrev pub reporting : Header → ℕ → Bit → Ruling
-reporting h n b =
-    Changes (EndedAtEntry 0x02 (senseFor b)) (record { sweep = Nobody; joins = NoTask; header = h; notice = Reported n b })
-
-unfoldable pub lastChecks : Header → Entry → Ruling
-lastChecks h c = firstThatRules (check4 (h .aca) c ∷ check5 h ∷ []) (Changes Done (accepting h c))
-
+-- what checks 1 and 2 are told does not matter to those after them
 unfoldable pub checksPastAca : Header → Entry → Pending → Ruling
-checksPastAca h c p =
-    firstThatRules
-    (check3 h (c .nexus) (cond (c .exempt) NoBit (top p)) ∷ check4 (h .aca) c ∷ check5 h ∷ [])
-    (Changes Done (accepting h c))
+checksPastAca h c p = byChecks (drop 2 (checks h c false false p)) h c
+
+-- nor do the pending bits to those after check 3
+unfoldable pub lastChecks : Header → Entry → Ruling
+lastChecks h c = byChecks (drop 3 (checks h c false false noPending)) h c

@@ -7,9 +7,7 @@ use parts::bit_if;
 use parts::held_off;
 use parts::held_status;
 use parts::is_full;
-use parts::sweeping_by;
 use values::Answer;
-use values::Bit;
 use values::Change;
 use values::Entry;
 use values::Header;
@@ -23,31 +21,45 @@ use values::Task;
 use values::TaskState;
 use values::Top;
 ghost use mathlib.Core.Path.{_≡_};
-ghost use Rattle.rules.specs.Rules.{endedWith, checked, newTask, accepting};
-ghost use Rattle.judge.specs.LastChecks.{reporting, lastChecks, checksPastAca};
+ghost use Rattle.rules.specs.Rules.{endedWith, reporting, checkCondition, newTask, accepting};
+ghost use Rattle.judge.specs.LastChecks.{lastChecks, checksPastAca};
+
+fn sense(key: u8, code: u8, qualifier: u8) -> Sense
+    ensures { λ r. ⌜ r ≡ Rattle.rules.specs.Rules.sense key code qualifier ⌝ }
+{
+    Sense {
+        key: key,
+        code: code,
+        qualifier: qualifier,
+    }
+}
 
 fn ended_with(status: u8) -> Answer
     ensures { λ r. ⌜ r ≡ endedWith status ⌝ }
 {
-    Answer::EndedAtEntry(
-        status,
-        Sense {
-            key: 0,
-            code: 0,
-            qualifier: 0,
-        },
-    )
+    Answer::EndedAtEntry(status, sense(0, 0, 0))
 }
 
-fn checked_with(key: u8, code: u8, qualifier: u8) -> Answer
-    ensures { λ r. ⌜ r ≡ checked key code qualifier ⌝ }
+fn reporting_bit(n: u8, top: Top) -> Notice
+    ensures { λ r. ⌜ r ≡ reporting n top ⌝ }
 {
-    Answer::EndedAtEntry(
-        0x02,
-        Sense {
-            key: key,
-            code: code,
-            qualifier: qualifier,
+    match top {
+        Top::NoBit => Notice::Quiet,
+        Top::Highest(b) => Notice::Reported(n, b),
+    }
+}
+
+// Checks 1, 3 and 4 end the command so.
+fn check_condition(h: Header, c: Entry, told: Sense, w: Sweep, top: Top) -> Ruling
+    ensures { λ r. ⌜ r ≡ checkCondition h c told w top ⌝ }
+{
+    Ruling::Changes(
+        Answer::EndedAtEntry(0x02, told),
+        Change {
+            sweep: w,
+            joins: Joins::NoTask,
+            header: h,
+            notice: reporting_bit(c.nexus, top),
         },
     )
 }
@@ -83,26 +95,12 @@ fn last_checks(h: Header, c: Entry) -> Ruling
     let aca = h.aca;
     let asked = c.asked;
     if bad_attribute(aca, asked) {
-        return Ruling::Keeps(checked_with(0x5, 0x49, 0x00));
+        return check_condition(h, c, sense(0x5, 0x49, 0x00), Sweep::Nobody, Top::NoBit);
     }
     if is_full(h) {
         return Ruling::Keeps(ended_with(0x28));
     }
     Ruling::Changes(Answer::Done, accepted(h, c))
-}
-
-fn reported(h: Header, n: u8, b: Bit) -> Ruling
-    ensures { λ r. ⌜ r ≡ reporting h n b ⌝ }
-{
-    Ruling::Changes(
-        Answer::EndedAtEntry(0x02, sense_for(b)),
-        Change {
-            sweep: Sweep::Nobody,
-            joins: Joins::NoTask,
-            header: h,
-            notice: Notice::Reported(n, b),
-        },
-    )
 }
 
 // Checks 3 to 6.
@@ -111,7 +109,7 @@ fn checks_past_aca(h: Header, c: Entry, p: Pending) -> Ruling
 {
     let top = bit_if(c.exempt, p);
     match top {
-        Top::Highest(b) => reported(h, c.nexus, b),
+        Top::Highest(b) => check_condition(h, c, sense_for(b), Sweep::Nobody, top),
         Top::NoBit => last_checks(h, c),
     }
 }
@@ -123,9 +121,12 @@ pub fn enter(h: Header, c: Entry, here: bool, has_aca: bool, p: Pending) -> Ruli
     let aca = h.aca;
     let asked = c.asked;
     if here {
-        return Ruling::Changes(
-            checked_with(0xB, 0x4E, 0x00),
-            sweeping_by(h, Sweep::NexusTasks(c.nexus)),
+        return check_condition(
+            h,
+            c,
+            sense(0xB, 0x4E, 0x00),
+            Sweep::NexusTasks(c.nexus),
+            Top::NoBit,
         );
     }
     if held_off(aca, c.nexus, asks_aca(asked), has_aca) {

@@ -2,26 +2,26 @@
 use Prim.Native.Nat.{ℕ, zero, suc, _+_, _<_}
 use mathlib.Core.Bool.{Bool, true, false, cond, _&&_, not, and-false as and-off, or-false as or-off}
 use mathlib.Core.Path.{_≡_, refl, ap, sym, _∙_}
-use mathlib.Core.List.{List, [], _∷_, _++_, map}
+use mathlib.Core.List.{List, [], _∷_, map}
 use mathlib.Core.Option.{Option, none, some}
 use native.Mathlib.Omega.{arith}
-use lib.Dec.{eqb, ltb, leb}
+use lib.Dec.{eqb, ltb}
 use lib.ListN.{length, getD}
 use lib.Seq.{getD-set-same, getD-set-other}
 use borrow.Author.Tests.{not-true, ltb-true, lt-ltb, eqb-true, eqb-false, eq-eqb}
 use Rattle.laws.specs.Lists.{any, first}
 use Rattle.laws.proofs.Bools.{and-true, cases, split}
 use Rattle.laws.proofs.Lists.{any-less, first-passes}
-use Rattle.rules.specs.Types.{Task, Entry, Finish, Good, CheckCondition, Function, AbortTask, AbortTaskSet, ClearTaskSet, ClearAca, LogicalUnitReset, Unknown, Happening, PowerOn, HardReset, NexusLoss, Event, Command, Completion, Management, Condition, Qerr, EndNone, EndAll, EndNexus, Allegiance, Clear, Faulted, Pending, Bit, PowerBit, HardBit, UnitBit, LossBit, ClearedBit, NoBit, Sense, Done, EndedAtEntry, Sweep, ClearedBy, FailedTask, Ruling, Keeps, Changes}
-use Rattle.rules.specs.Tasks.{places, acaTask, ofNexus, same, isEnabled, enabledTask, isNamed}
+use Rattle.rules.specs.Types.{Task, Entry, Finish, Good, CheckCondition, Function, AbortTask, AbortTaskSet, ClearTaskSet, ClearAca, LogicalUnitReset, Unknown, Happening, PowerOn, HardReset, NexusLoss, Event, Command, Completion, Management, Condition, Qerr, EndNone, EndAll, EndNexus, Allegiance, Clear, Faulted, Pending, Bit, PowerBit, HardBit, UnitBit, LossBit, ClearedBit, Top, NoBit, Highest, EndedAtEntry, Sweep, Nobody, ClearedBy, FailedTask, Ruling}
+use Rattle.rules.specs.Tasks.{acaTask, ofNexus, same, isEnabled, enabledTask, isNamed}
 use Rattle.rules.specs.Bits.{noPending, senseFor, without, afterPowerOn, afterHardReset, afterUnitReset, afterNexusLoss, afterCleared}
 use Rattle.rules.specs.Rulings.{State, pendingOf, turn, lost, fateOf, tellLosersFrom, noted, answerOf, ruled}
-use Rattle.rules.specs.Rules.{endedWith, checked, asksAca, onlyIf, check2, check3, check4, check5, badAttribute, accepting, firstThatRules, enter, toldWithoutTas, toldByQerr, complete, clearing, manage, happen, nexusOf, ruleFor, ruling, step, answer}
+use Rattle.rules.specs.Rules.{reporting, checkCondition, check2, bitToReport, toldWithoutTas, toldByQerr, complete, clearing, manage, happen, nexusOf, ruleFor, ruling, step, answer}
 use Rattle.rules.specs.Well.{WellFormed, distinct}
 use Rattle.rules.specs.Attentions.{rank, ranks, isSet, highest, Attention, Unmoved, Gets, Reports, bitAfter, passesAca, reaches3, reportsBit, reportedBy, clearedBy, completes, endsOthers, byFunction, byHappening, caused, attention}
 use Rattle.rules.proofs.Fates.{isEnds, all-end}
 use Rattle.rules.proofs.Distinct.{same-parts}
-use Rattle.rules.proofs.Cases.{enter-cases}
+use Rattle.rules.proofs.Cases.{stop, check-cases, enter-cases, check2-none}
 use Rattle.rules.proofs.WellKept.{Tested}
 use Rattle.rules.proofs.WellSays.{says-tested}
 use Rattle.rules.proofs.FieldErrors.{topIs, top-first, qerr-all-ends}
@@ -69,20 +69,6 @@ rank-place = every-bit (λ b. getD ranks (rank b) PowerBit ≡ b) refl refl refl
 
 -- Entry
 
-by-check2 :
-    (P : Option Ruling → Bool → Type 0) (a : Allegiance) (c : Entry) (aca : Bool)
-    → ((st : ℕ) (se : Sense) → P (some (Keeps (EndedAtEntry st se))) false) → P none true → P (check2 a c aca) (passesAca a c aca)
-by-check2 P Clear c aca stops goes = goes
-by-check2 P (Faulted f) c aca stops goes = go (eqb (c .nexus) f) (asksAca (c .asked)) aca
-  where
-    go :
-        (x y z : Bool)
-        → P (cond x (onlyIf (not (y && not z)) (Keeps (endedWith 0x30))) (some (Keeps (endedWith (cond (c .naca) 0x30 0x08))))) (x && y && not z)
-    go true true true = stops _ _
-    go true true false = goes
-    go true false z = stops _ _
-    go false y z = stops _ _
-
 -- what is due to a nexus at a ruling: its bits change so, and what is reported is the answer
 record Due (s : State) (i : ℕ) (r : Ruling) (a : Attention) : Type 0 where
   bits : pendingOf (ruled s r) i ≡ changed a (pendingOf s i)
@@ -94,66 +80,70 @@ none-reported e = absurd (let z : _≡_ {A = ℕ} 0 1 = cc in omega arith)
 unmoved-due : (s : State) (i : ℕ) (r : Ruling) → pendingOf (ruled s r) i ≡ pendingOf s i → Due s i r Unmoved
 unmoved-due s i r e = record { bits = e; told = λ b u. none-reported u }
 
+-- another way to say the attention
+due-as : {s : State} {i : ℕ} {r : Ruling} {a b : Attention} → a ≡ b → Due s i r b → Due s i r a
+due-as e d = rw e d
+
+-- what check 3 says to a nexus
+abbrev tells : Top → Attention
+tells NoBit = Unmoved
+tells (Highest b) = Reports b
+
+told-is : (exempt : Bool) (o : Option Bit) → cond (not exempt) (reportsBit o) Unmoved ≡ tells (cond exempt NoBit (topIs o))
+told-is true o = refl
+told-is false none = refl
+told-is false (some b) = refl
+
+passes : (a : Allegiance) (c : Entry) (aca : Bool) → check2 a c aca ≡ none → passesAca a c aca ≡ true
+passes Clear c aca e = refl
+passes (Faulted f) c aca e = let k = check2-none f c aca e in rw (k .0, k .1, k .2)
+
 module _ (s : State) (c : Entry) (here : c .nexus < length (s .pending)) where
-  -- what the checks come to where those before 4 give os
-  abbrev decided : List (Option Ruling) → Ruling
-  decided os = firstThatRules (os ++ (check4 (s .header .aca) c ∷ check5 (s .header) ∷ [])) (Changes Done (accepting (s .header) c))
-
-  passed-due : Due s (c .nexus) (decided []) Unmoved
-  passed-due = unmoved-due s (c .nexus) (decided []) (go (badAttribute (s .header .aca) (c .asked)) (leb places (s .header .count)))
-    where
-      go :
-          (b4 b5 : Bool)
-          → pendingOf
-          (ruled s
-          (firstThatRules (onlyIf b4 (Keeps (checked 0x5 0x49 0x00)) ∷ onlyIf b5 (Keeps (endedWith 0x28)) ∷ [])
-          (Changes Done (accepting (s .header) c))))
-          (c .nexus)
-          ≡ pendingOf s (c .nexus)
-      go true b5 = refl
-      go false true = refl
-      go false false = refl
-
-  abbrev third : Bool → Option Bit → Option Ruling
-  third exempt o = check3 (s .header) (c .nexus) (cond exempt NoBit (topIs o))
-
-  third-due :
-      (exempt : Bool) (o : Option Bit)
-      → Due s (c .nexus) (decided (third exempt o ∷ [])) (cond (not exempt) (reportsBit o) Unmoved)
-  third-due true o = passed-due
-  third-due false none = passed-due
-  third-due false (some b) =
-      record {
-        bits = getD-set-same (s .pending) (c .nexus) _ noPending here;
-        told = λ b′ e. let z : b ≡ b′ = cc in rw z;
-      }
+  -- checks 1 and 2 let the command pass
+  past-aca :
+      any (same (c .nexus) (c .tag)) (s .tasks) ≡ false → check2 (s .header .aca) c (any acaTask (s .tasks)) ≡ none
+      → reportedBy s c ≡ tells (bitToReport c (pendingOf s (c .nexus)))
+  past-aca n1 n2 =
+      rw (n1, passes (s .header .aca) c (any acaTask (s .tasks)) n2, top-first (pendingOf s (c .nexus)))
+      (told-is (c .exempt) (highest (pendingOf s (c .nexus))))
 
   own-due : Due s (c .nexus) (ruleFor s (Command c)) (reportedBy s c)
-  unfolding ruleFor enter
+  unfolding ruleFor
   own-due =
-      rw (top-first (pendingOf s (c .nexus)))
-      (split (any (same (c .nexus) (c .tag)) (s .tasks)) (λ k. rw k (unmoved-due s (c .nexus) _ refl))
-      (λ k.
-      rw k
-      (by-check2
-      (λ o b.
-      Due s (c .nexus) (decided (o ∷ third (c .exempt) (highest (pendingOf s (c .nexus))) ∷ []))
-      (cond (b && not (c .exempt)) (reportsBit (highest (pendingOf s (c .nexus)))) Unmoved))
-      (s .header .aca)
-      c
-      (any acaTask (s .tasks))
-      (λ st se. unmoved-due s (c .nexus) _ refl)
-      (third-due (c .exempt) (highest (pendingOf s (c .nexus)))))))
+      check-cases (λ r. Due s (c .nexus) r (reportedBy s c)) (s .header) c (any (same (c .nexus) (c .tag)) (s .tasks)) (any acaTask (s .tasks))
+      (pendingOf s (c .nexus))
+      (stop (λ y. silent (rw y) refl) λ n1.
+      stop (λ f a e k. silent (rw (n1, a, e, k)) refl, λ f a e. silent (rw (n1, a, e)) refl) λ n2.
+      stop (λ b e. due-as (past-aca n1 n2 ∙ ap tells e) (reported b)) λ n3.
+      let quiet : reportedBy s c ≡ Unmoved = past-aca n1 n2 ∙ ap tells n3 in
+      stop (λ e. silent quiet refl) λ n4.
+      stop (λ e. silent quiet refl) λ n5.
+      silent quiet refl)
+    where
+      silent :
+          {r : Ruling} → reportedBy s c ≡ Unmoved → pendingOf (ruled s r) (c .nexus) ≡ pendingOf s (c .nexus)
+          → Due s (c .nexus) r (reportedBy s c)
+      silent e q = due-as e (unmoved-due s (c .nexus) _ q)
+
+      reported : (b : Bit) → Due s (c .nexus) (checkCondition (s .header) c (senseFor b) Nobody (Highest b)) (Reports b)
+      reported b =
+          record {
+            bits = getD-set-same (s .pending) (c .nexus) _ noPending here;
+            told = λ b′ e. let z : b ≡ b′ = cc in rw z;
+          }
 
   other-due : (i : ℕ) → (i ≡ c .nexus → ⊥) → Due s i (ruleFor s (Command c)) Unmoved
   unfolding ruleFor
   other-due i ne =
       enter-cases (λ r. Due s i r Unmoved) (s .header) c (any (same (c .nexus) (c .tag)) (s .tasks)) (any acaTask (s .tasks))
       (pendingOf s (c .nexus))
-      (unmoved-due s i _ refl)
-      (λ st se. unmoved-due s i _ refl)
-      (λ b. unmoved-due s i _ (getD-set-other (s .pending) (c .nexus) i _ noPending ne))
-      (λ n1 n2 n4 n5. unmoved-due s i _ refl)
+      (λ se w o. unmoved-due s i _ (other-bits _ o))
+      (λ st. unmoved-due s i _ refl)
+      (λ p. unmoved-due s i _ refl)
+    where
+      other-bits : (ls : List Task) (o : Top) → getD (noted (reporting (c .nexus) o) ls (s .pending)) i noPending ≡ pendingOf s i
+      other-bits ls NoBit = refl
+      other-bits ls (Highest b) = getD-set-other (s .pending) (c .nexus) i _ noPending ne
 
   command-due : (i : ℕ) → Due s i (ruleFor s (Command c)) (caused s (Command c) i)
   command-due i =

@@ -2,17 +2,40 @@
 use Prim.Native.Nat.{ℕ, _<_, _≤_}
 use mathlib.Core.Bool.{Bool, true, false, cond, _&&_, not}
 use mathlib.Core.Path.{_≡_, refl, sym}
-use mathlib.Core.List.{[], _∷_}
+use mathlib.Core.List.{List, [], _∷_}
 use mathlib.Core.Option.{Option, none, some}
 use lib.Dec.{eqb, ltb, leb}
 use borrow.Author.Tests.{ltb-true, lt-ltb, le-ltb, not-true, not-false}
 use Rattle.laws.specs.Lists.{any, first}
 use Rattle.laws.proofs.Bools.{and-true, cases, none-some, some-is}
-use Rattle.rules.specs.Types.{Task, Entry, Finish, Function, Happening, Event, Command, Completion, Management, Condition, Allegiance, Clear, Faulted, Header, Pending, Bit, Top, NoBit, Highest, Nobody, NexusTasks, Reported, NoTask, Sense, EndedAtEntry, Done, NexusAboveSeven, NoSuchTask, NotEnabled, Ruling, Keeps, Changes}
+use Rattle.rules.specs.Types.{Task, Entry, Finish, Function, Happening, Event, Command, Completion, Management, Condition, Allegiance, Clear, Faulted, Header, Pending, Bit, Top, NoBit, Highest, Sweep, Nobody, NexusTasks, Sense, Done, NexusAboveSeven, NoSuchTask, NotEnabled, Ruling, Keeps, Changes}
 use Rattle.rules.specs.Tasks.{nexuses, isEnabled, acaTask, same, isNamed}
-use Rattle.rules.specs.Bits.{top, senseFor}
+use Rattle.rules.specs.Bits.{senseFor}
 use Rattle.rules.specs.Rulings.{State, pendingOf, turn}
-use Rattle.rules.specs.Rules.{sweeping, endedWith, checked, onlyIf, asksAca, check2, check3, badAttribute, accepting, firstThatRules, enter, finish, complete, manage, happen, nexusOf, ruleFor, ruling}
+use Rattle.rules.specs.Rules.{sense, endedWith, checkCondition, onlyIf, asksAca, check2, bitToReport, check3, badAttribute, accepting, firstThatRules, checks, enter, finish, complete, manage, happen, nexusOf, ruleFor, ruling}
+
+-- The checks of a command -----------------------------------------------------------------------------------------------------------------
+
+-- what is to be shown of a check: A where it rules, B where it lets pass
+pub data Check (A B : Type 0) : Type 0 where
+  stop : A → B → Check A B
+
+stops : {A B : Type 0} → Check A B → A
+stops (stop a b) = a
+
+passes : {A B : Type 0} → Check A B → B
+passes (stop a b) = b
+
+-- what is to be shown so that P holds of what a list of checks comes to, with r where all of them let pass
+abbrev pub Ruled : (Ruling → Type 0) → List (Option Ruling) → Ruling → Type 0
+Ruled P [] r = P r
+Ruled P (o ∷ cs) r = Check ((q : Ruling) → o ≡ some q → P q) (o ≡ none → Ruled P cs r)
+
+-- the one law of every list of checks, however long
+pub first-ruled : (P : Ruling → Type 0) (cs : List (Option Ruling)) (r : Ruling) → Ruled P cs r → P (firstThatRules cs r)
+first-ruled P [] r k = k
+first-ruled P (none ∷ cs) r k = first-ruled P cs r (passes k refl)
+first-ruled P (some q ∷ cs) r k = stops k q refl
 
 only-some : (P : Ruling → Type 0) (b : Bool) (r q : Ruling) → (b ≡ true → P r) → onlyIf b r ≡ some q → P q
 only-some P true r q p e = some-is P r q e (p refl)
@@ -22,99 +45,77 @@ only-none : (b : Bool) (r : Ruling) → onlyIf b r ≡ none → b ≡ false
 only-none true r e = none-some r (sym e)
 only-none false r e = refl
 
-decide-cases :
-    (P : Ruling → Type 0) (b1 : Bool) (o2 o3 : Option Ruling) (b4 b5 : Bool) (r1 r4 r5 r : Ruling)
-    → (b1 ≡ true → P r1)
-    → (b1 ≡ false → (q : Ruling) → o2 ≡ some q → P q)
-    → (b1 ≡ false → o2 ≡ none → (q : Ruling) → o3 ≡ some q → P q)
-    → (b1 ≡ false → o2 ≡ none → o3 ≡ none → b4 ≡ true → P r4)
-    → (b1 ≡ false → o2 ≡ none → o3 ≡ none → b4 ≡ false → b5 ≡ true → P r5)
-    → (b1 ≡ false → o2 ≡ none → o3 ≡ none → b4 ≡ false → b5 ≡ false → P r)
-    → P (firstThatRules (onlyIf b1 r1 ∷ o2 ∷ o3 ∷ onlyIf b4 r4 ∷ onlyIf b5 r5 ∷ []) r)
-decide-cases P true o2 o3 b4 b5 r1 r4 r5 r f1 f2 f3 f4 f5 f = f1 refl
-decide-cases P false (some q) o3 b4 b5 r1 r4 r5 r f1 f2 f3 f4 f5 f = f2 refl q refl
-decide-cases P false none (some q) b4 b5 r1 r4 r5 r f1 f2 f3 f4 f5 f = f3 refl refl q refl
-decide-cases P false none none true b5 r1 r4 r5 r f1 f2 f3 f4 f5 f = f4 refl refl refl refl
-decide-cases P false none none false true r1 r4 r5 r f1 f2 f3 f4 f5 f = f5 refl refl refl refl refl
-decide-cases P false none none false false r1 r4 r5 r f1 f2 f3 f4 f5 f = f refl refl refl refl refl
+-- what is to be shown of check 2, in an ACA of nexus f
+abbrev pub AcaStops : (Ruling → Type 0) → Allegiance → Entry → Bool → Type 0
+AcaStops P a c aca =
+    ((f : ℕ) → a ≡ Faulted f → eqb (c .nexus) f ≡ true → asksAca (c .asked) && not aca ≡ false → P (Keeps (endedWith 0x30)))
+    × ((f : ℕ) → a ≡ Faulted f → eqb (c .nexus) f ≡ false → P (Keeps (endedWith (cond (c .naca) 0x30 0x08))))
 
 check2-some :
-    (P : Ruling → Type 0) (a : Allegiance) (c : Entry) (aca : Bool) (q : Ruling)
-    → ((f : ℕ) → a ≡ Faulted f → eqb (c .nexus) f ≡ true → asksAca (c .asked) && not aca ≡ false → P (Keeps (endedWith 0x30)))
-    → ((f : ℕ) → a ≡ Faulted f → eqb (c .nexus) f ≡ false → P (Keeps (endedWith (cond (c .naca) 0x30 0x08))))
-    → check2 a c aca ≡ some q → P q
-check2-some P Clear c aca q active busy e = none-some q e
-check2-some P (Faulted f) c aca q active busy e =
+    (P : Ruling → Type 0) (a : Allegiance) (c : Entry) (aca : Bool) (q : Ruling) → AcaStops P a c aca → check2 a c aca ≡ some q → P q
+check2-some P Clear c aca q k e = none-some q e
+check2-some P (Faulted f) c aca q k e =
     cases (λ o. o ≡ some q → P q) (eqb (c .nexus) f)
-    (λ h. only-some P (not (asksAca (c .asked) && not aca)) _ q (λ k. active f refl h (not-true _ k)))
-    (λ h e′. some-is P _ q e′ (busy f refl h))
+    (λ h. only-some P (not (asksAca (c .asked) && not aca)) _ q (λ n. k .0 f refl h (not-true _ n)))
+    (λ h e′. some-is P _ q e′ (k .1 f refl h))
     e
 
 check3-some :
-    (P : Ruling → Type 0) (h : Header) (n : ℕ) (o : Top) (q : Ruling)
-    → ((b : Bit) → o ≡ Highest b
-    → P (Changes (EndedAtEntry 0x02 (senseFor b)) (record { sweep = Nobody; joins = NoTask; header = h; notice = Reported n b })))
-    → check3 h n o ≡ some q → P q
-check3-some P h n NoBit q tells e = none-some q e
-check3-some P h n (Highest b) q tells e = some-is P _ q e (tells b refl)
+    (P : Ruling → Type 0) (h : Header) (c : Entry) (o : Top) (q : Ruling)
+    → ((b : Bit) → o ≡ Highest b → P (checkCondition h c (senseFor b) Nobody (Highest b))) → check3 h c o ≡ some q → P q
+check3-some P h c NoBit q tells e = none-some q e
+check3-some P h c (Highest b) q tells e = some-is P _ q e (tells b refl)
 
-check3-none : (h : Header) (n : ℕ) (o : Top) → check3 h n o ≡ none → o ≡ NoBit
-check3-none h n NoBit e = refl
-check3-none h n (Highest b) e = none-some _ (sym e)
+check3-none : (h : Header) (c : Entry) (o : Top) → check3 h c o ≡ none → o ≡ NoBit
+check3-none h c NoBit e = refl
+check3-none h c (Highest b) e = none-some _ (sym e)
 
--- a command, by the check that decides it, with what the checks before it said
+-- a command, check by check, each with what those before it said
 pub check-cases :
     (P : Ruling → Type 0) (h : Header) (c : Entry) (here aca : Bool) (p : Pending)
-    → (here ≡ true → P (Changes (checked 0xB 0x4E 0x00) (sweeping h (NexusTasks (c .nexus)))))
-    → (here ≡ false → (f : ℕ) → h .aca ≡ Faulted f → eqb (c .nexus) f ≡ true → asksAca (c .asked) && not aca ≡ false
-    → P (Keeps (endedWith 0x30)))
-    → (here ≡ false → (f : ℕ) → h .aca ≡ Faulted f → eqb (c .nexus) f ≡ false → P (Keeps (endedWith (cond (c .naca) 0x30 0x08))))
-    → (here ≡ false → check2 (h .aca) c aca ≡ none → (b : Bit) → cond (c .exempt) NoBit (top p) ≡ Highest b
-    → P
-    (Changes (EndedAtEntry 0x02 (senseFor b)) (record { sweep = Nobody; joins = NoTask; header = h; notice = Reported (c .nexus) b })))
-    → (here ≡ false → check2 (h .aca) c aca ≡ none → cond (c .exempt) NoBit (top p) ≡ NoBit → badAttribute (h .aca) (c .asked) ≡ true
-    → P (Keeps (checked 0x5 0x49 0x00)))
-    → (here ≡ false → check2 (h .aca) c aca ≡ none → cond (c .exempt) NoBit (top p) ≡ NoBit → badAttribute (h .aca) (c .asked) ≡ false
-    → leb 64 (h .count) ≡ true → P (Keeps (endedWith 0x28)))
-    → (here ≡ false → check2 (h .aca) c aca ≡ none → cond (c .exempt) NoBit (top p) ≡ NoBit → badAttribute (h .aca) (c .asked) ≡ false
-    → leb 64 (h .count) ≡ false → P (Changes Done (accepting h c)))
+    → Check (here ≡ true → P (checkCondition h c (sense 0xB 0x4E 0x00) (NexusTasks (c .nexus)) NoBit)) (here ≡ false
+    → Check (AcaStops P (h .aca) c aca) (check2 (h .aca) c aca ≡ none
+    → Check ((b : Bit) → bitToReport c p ≡ Highest b → P (checkCondition h c (senseFor b) Nobody (Highest b))) (bitToReport c p ≡ NoBit
+    → Check (badAttribute (h .aca) (c .asked) ≡ true → P (checkCondition h c (sense 0x5 0x49 0x00) Nobody NoBit)) (
+    badAttribute (h .aca) (c .asked) ≡ false
+    → Check (leb 64 (h .count) ≡ true → P (Keeps (endedWith 0x28))) (leb 64 (h .count) ≡ false
+    → P (Changes Done (accepting h c)))))))
     → P (enter h c here aca p)
 unfolding enter
-check-cases P h c here aca p over active busy tells bad full accepts =
-    decide-cases P here (check2 (h .aca) c aca) (check3 h (c .nexus) first-bit) (badAttribute (h .aca) (c .asked)) (leb 64 (h .count))
-    _
-    _
-    _
-    _
-    over
-    (λ n1 q. check2-some P (h .aca) c aca q (active n1) (busy n1))
-    (λ n1 n2 q. check3-some P h (c .nexus) first-bit q (tells n1 n2))
-    (λ n1 n2 n3. bad n1 n2 (untold n3))
-    (λ n1 n2 n3. full n1 n2 (untold n3))
-    (λ n1 n2 n3. accepts n1 n2 (untold n3))
-  where
-    first-bit : Top
-    first-bit = cond (c .exempt) NoBit (top p)
+check-cases P h c here aca p k =
+    first-ruled P (checks h c here aca p) _
+    (stop (λ q. only-some P here _ q (stops k)) λ e1.
+    let k1 = passes k (only-none here _ e1) in
+    stop (λ q. check2-some P (h .aca) c aca q (stops k1)) λ e2.
+    let k2 = passes k1 e2 in
+    stop (λ q. check3-some P h c (bitToReport c p) q (stops k2)) λ e3.
+    let k3 = passes k2 (check3-none h c (bitToReport c p) e3) in
+    stop (λ q. only-some P (badAttribute (h .aca) (c .asked)) _ q (stops k3)) λ e4.
+    let k4 = passes k3 (only-none (badAttribute (h .aca) (c .asked)) _ e4) in
+    stop (λ q. only-some P (leb 64 (h .count)) _ q (stops k4)) λ e5.
+    passes k4 (only-none (leb 64 (h .count)) _ e5))
 
-    untold : check3 h (c .nexus) first-bit ≡ none → first-bit ≡ NoBit
-    untold = check3-none h (c .nexus) first-bit
+-- what the checks have said of a command that all of them let pass
+pub record Passed (h : Header) (c : Entry) (here aca : Bool) (p : Pending) : Type 0 where
+  pub not-overlapped : here ≡ false
+  pub aca-lets-it : check2 (h .aca) c aca ≡ none
+  pub no-attention : bitToReport c p ≡ NoBit
+  pub attribute-good : badAttribute (h .aca) (c .asked) ≡ false
+  pub room : leb 64 (h .count) ≡ false
 
--- a command: overlapped, kept out, told of an attention, or accepted
+-- a command: ended with CHECK CONDITION, kept out with another status, or accepted
 pub enter-cases :
     (P : Ruling → Type 0) (h : Header) (c : Entry) (here aca : Bool) (p : Pending)
-    → P (Changes (checked 0xB 0x4E 0x00) (sweeping h (NexusTasks (c .nexus))))
-    → ((st : ℕ) (se : Sense) → P (Keeps (EndedAtEntry st se)))
-    → ((b : Bit)
-    → P
-    (Changes (EndedAtEntry 0x02 (senseFor b)) (record { sweep = Nobody; joins = NoTask; header = h; notice = Reported (c .nexus) b })))
-    → (here ≡ false → check2 (h .aca) c aca ≡ none → badAttribute (h .aca) (c .asked) ≡ false → leb 64 (h .count) ≡ false
-    → P (Changes Done (accepting h c)))
-    → P (enter h c here aca p)
-enter-cases P h c here aca p over keeps notes accepts =
-    check-cases P h c here aca p (λ n1. over) (λ n1 f a e k. keeps _ _) (λ n1 f a e. keeps _ _) (λ n1 n2 b e. notes b)
-    (λ n1 n2 n3 n4. keeps _ _)
-    (λ n1 n2 n3 n4 n5. keeps _ _)
-    (λ n1 n2 n3. accepts n1 n2)
+    → ((se : Sense) (w : Sweep) (o : Top) → P (checkCondition h c se w o)) → ((st : ℕ) → P (Keeps (endedWith st)))
+    → (Passed h c here aca p → P (Changes Done (accepting h c))) → P (enter h c here aca p)
+enter-cases P h c here aca p fails keeps accepts =
+    check-cases P h c here aca p
+    (stop (λ e. fails _ _ NoBit) λ n1.
+    stop (λ f a e k. keeps _, λ f a e. keeps _) λ n2.
+    stop (λ b e. fails _ _ (Highest b)) λ n3.
+    stop (λ e. fails _ _ NoBit) λ n4.
+    stop (λ e. keeps _) λ n5.
+    accepts (record { not-overlapped = n1; aca-lets-it = n2; no-attention = n3; attribute-good = n4; room = n5 }))
 
 -- a command that passes check 2 in an ACA is of the faulted nexus and asks for attribute ACA, and there is no ACA task
 pub check2-none :

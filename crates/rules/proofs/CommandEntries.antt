@@ -1,4 +1,4 @@
--- Laws of a command's entry, for every state: the overlapped command (check 1) and the full task set (check 5).
+-- Laws of a command's entry, for every state: the overlapped command (check 1), the bad attribute (check 4) and the full task set (check 5).
 use Prim.Native.Nat.{ℕ, _<_}
 use mathlib.Core.Bool.{Bool, true, false, cond, not}
 use mathlib.Core.Path.{_≡_, refl, ap}
@@ -6,19 +6,23 @@ use mathlib.Core.List.{List, [], _∷_, map, append-nil}
 use mathlib.Core.Option.{none}
 use mathlib.Core.Logic.{_⊎_, inl, inr}
 use native.Mathlib.Omega.{arith}
-use lib.Dec.{eqb}
+use lib.Dec.{eqb, ltb}
 use lib.ListN.{length}
 use borrow.Author.Tests.{lt-ltb, le-leb, lt-leb}
 use Rattle.laws.specs.Lists.{any, passing}
 use Rattle.laws.proofs.Bools.{cases}
-use Rattle.rules.specs.Types.{Task, Entry, Command, NoBit, Ended, NexusTasks, Done, Changes}
-use Rattle.rules.specs.Tasks.{acaTask, ofNexus, same}
-use Rattle.rules.specs.Bits.{top}
-use Rattle.rules.specs.Rulings.{State, pendingOf, endIf, fateOf, endedFrom, taskName}
-use Rattle.rules.specs.Rules.{sweeping, endedWith, checked, check2, badAttribute, check5, accepting, firstThatRules, enter, ruleFor, ruling, step, answer, report}
-use Rattle.rules.specs.Well.{WellFormed}
+use Rattle.rules.specs.Types.{Task, Entry, Command, Allegiance, Clear, Faulted, Bit, NoBit, Sense, Ended, Nobody, NexusTasks, EndedAtEntry, Done, Ruling}
+use Rattle.rules.specs.Tasks.{acaTask, ofNexus, same, restate}
+use Rattle.rules.specs.Bits.{top, senseFor}
+use Rattle.rules.specs.Rulings.{State, pendingOf, endIf, kept, fateOf, answerOf, ruled, endedFrom, reportOf, taskName}
+use Rattle.rules.specs.Rules.{sense, endedWith, checkCondition, check2, bitToReport, badAttribute, check5, byChecks, enter, ruleFor, ruling, step, answer, report}
+use Rattle.rules.specs.Well.{WellFormed, statesFit}
 use Rattle.rules.proofs.Fates.{kept-others, ended-gone}
 use Rattle.rules.proofs.Distinct.{any-restate, map-restate}
+use Rattle.rules.proofs.Settled.{settle-settled}
+use Rattle.rules.proofs.Cases.{stop, check-cases}
+use Rattle.rules.proofs.WellSays.{says-tested}
+use Rattle.rules.proofs.Attentions.{every-bit}
 
 -- Overlapped -------------------------------------------------------------------------------------------------------------------------------
 
@@ -29,12 +33,12 @@ pub record Overlapped (s : State) (c : Entry) : Type 0 where
 
 overlapped-ruling :
     (s : State) (c : Entry) → Overlapped s c
-    → ruling s (Command c) ≡ Changes (checked 0xB 0x4E 0x00) (sweeping (s .header) (NexusTasks (c .nexus)))
+    → ruling s (Command c) ≡ checkCondition (s .header) c (sense 0xB 0x4E 0x00) (NexusTasks (c .nexus)) NoBit
 unfolding ruling ruleFor enter
 overlapped-ruling s c o = rw (lt-ltb (c .nexus) 8 (o .low), o .here)
 
 -- "CHECK CONDITION 02h, sense Bh/4Eh/00h"
-pub overlapped-answer : (s : State) (c : Entry) → Overlapped s c → answer s (Command c) ≡ checked 0xB 0x4E 0x00
+pub overlapped-answer : (s : State) (c : Entry) → Overlapped s c → answer s (Command c) ≡ EndedAtEntry 0x02 (sense 0xB 0x4E 0x00)
 unfolding answer
 overlapped-answer s c o = rw (overlapped-ruling s c o)
 
@@ -80,6 +84,56 @@ overlapped-ends-no-other s c o =
           (ap (map taskName) (kept-others (ofNexus (c .nexus)) 0xFF (s .tasks)));
     }
 
+-- Attribute --------------------------------------------------------------------------------------------------------------------------------
+
+all-stay : (ts : List Task) → kept (map (fateOf Nobody) ts) ts ≡ ts
+all-stay [] = refl
+all-stay (t ∷ ts) = rw (all-stay ts)
+
+nobody-ends : (ts : List Task) → endedFrom (map (fateOf Nobody) ts) ts ≡ []
+nobody-ends [] = refl
+nobody-ends (t ∷ ts) = nobody-ends ts
+
+restate-same : (a : Allegiance) (ts : List Task) → statesFit a ts ≡ true → restate a a ts ≡ ts
+restate-same Clear ts e = settle-settled [] ts e
+restate-same (Faulted f) ts e = refl
+
+-- a check with no sweep and no bit of its own leaves a well-formed state as it was, and nobody is reported
+nothing-changes :
+    (s : State) (c : Entry) (se : Sense) → WellFormed s
+    → (ruled s (checkCondition (s .header) c se Nobody NoBit) ≡ s) × (reportOf s (checkCondition (s .header) c se Nobody NoBit) ≡ [])
+nothing-changes s c se w = (
+  rw (all-stay (s .tasks), append-nil (s .tasks), restate-same (s .header .aca) (s .tasks) (says-tested s w .states), ← (w .counted)),
+  nobody-ends (s .tasks),
+)
+
+key-of : {st : ℕ} {se : Sense} → EndedAtEntry st se ≡ EndedAtEntry 0x02 (sense 0x5 0x49 0x00) → se .key ≡ 0x5
+key-of {st} {se} e = let z : se ≡ sense 0x5 0x49 0x00 = cc in ap (λ x. x .key) z
+
+-- of check 3: "02h with 6h/code"
+key-six : (b : Bit) → (senseFor b) .key ≡ 0x6
+key-six = every-bit (λ b. (senseFor b) .key ≡ 0x6) refl refl refl refl refl
+
+abbrev Unchanged : State → Ruling → Type 0
+Unchanged s r = answerOf r ≡ EndedAtEntry 0x02 (sense 0x5 0x49 0x00) → (ruled s r ≡ s) × (reportOf s r ≡ [])
+
+-- "4. Attribute not 0, 1, 2, 4, or 4 without ACA: 02h, 5h/49h/00h": a command that is answered so changes nothing
+pub bad-attribute-changes-nothing :
+    (s : State) (c : Entry) → WellFormed s → answer s (Command c) ≡ EndedAtEntry 0x02 (sense 0x5 0x49 0x00)
+    → (step s (Command c) ≡ s) × (report s (Command c) ≡ [])
+unfolding answer step report ruling ruleFor
+bad-attribute-changes-nothing s c w =
+    cases (Unchanged s) (ltb (c .nexus) 8)
+    (λ l.
+    check-cases (Unchanged s) (s .header) c (any (same (c .nexus) (c .tag)) (s .tasks)) (any acaTask (s .tasks)) (pendingOf s (c .nexus))
+    (stop (λ y e. absurd (omega (arith, key-of e))) λ n1.
+    stop (λ f a y k e. (refl, refl), λ f a y e. (refl, refl)) λ n2.
+    stop (λ b y e. absurd (omega (arith, key-of e, key-six b))) λ n3.
+    stop (λ y e. nothing-changes s c (sense 0x5 0x49 0x00) w) λ n4.
+    stop (λ y e. (refl, refl)) λ n5 e.
+    absurd (let z : _≡_ {A = ℕ} 0 1 = cc in omega arith)))
+    (λ l e. (refl, refl))
+
 -- Full -------------------------------------------------------------------------------------------------------------------------------------
 
 -- a command from nexus 0 to 7 that checks 1 to 4 let pass
@@ -92,12 +146,12 @@ pub record Passes (s : State) (c : Entry) : Type 0 where
 
 passed-ruling :
     (s : State) (c : Entry) → Passes s c
-    → ruling s (Command c) ≡ firstThatRules (check5 (s .header) ∷ []) (Changes Done (accepting (s .header) c))
+    → ruling s (Command c) ≡ byChecks (check5 (s .header) ∷ []) (s .header) c
 unfolding ruling ruleFor enter
 passed-ruling s c p =
     rw (lt-ltb (c .nexus) 8 (p .low), p .not-overlapped, p .aca-lets-it, quiet (p .no-attention), p .attribute-good)
   where
-    quiet : (c .exempt ≡ true) ⊎ (top (pendingOf s (c .nexus)) ≡ NoBit) → cond (c .exempt) NoBit (top (pendingOf s (c .nexus))) ≡ NoBit
+    quiet : (c .exempt ≡ true) ⊎ (top (pendingOf s (c .nexus)) ≡ NoBit) → bitToReport c (pendingOf s (c .nexus)) ≡ NoBit
     quiet (inl e) = rw e
     quiet (inr e) = cases (λ o. o ≡ NoBit) (c .exempt) (λ h. refl) (λ h. e)
 

@@ -11,7 +11,7 @@ use borrow.Author.Tests.{lt-ltb, eq-eqb}
 use Rattle.laws.specs.Lists.{any, first}
 use Rattle.laws.proofs.Bools.{not-both, cases}
 use Rattle.rules.specs.Types.{Attribute, Simple, HeadOfQueue, Ordered, Aca, Task, Finish, Good, CheckCondition, Management, Condition, AbortTask, AbortTaskSet, PowerOn, Allegiance, Clear, Header, Pending, Bit, Top, NoBit, Highest, AllTasks, FailedTask, Policy, EndAll}
-use Rattle.values.specs.Headers.{runAfter}
+use Rattle.values.specs.Headers.{lasting, lastingWith, freshHeader, runAfter}
 use Rattle.rules.specs.Tasks.{nexuses, isPlain, same, withState, eligible, enabledIf, settleFrom, restate}
 use Rattle.rules.specs.Bits.{noPending, top, afterPowerOn}
 use Rattle.rules.specs.Rulings.{State, fresh, kept, fateOf, tellLosersFrom, ruled}
@@ -96,7 +96,7 @@ all-power [] = refl
 all-power (p ∷ ps) = ap (λ (l : List Pending). afterPowerOn noPending ∷ l) (all-power ps)
 
 -- "A fresh table equals the state after power on."
-pub power-on-fresh : (s : State) → WellFormed s → step s (Condition PowerOn) ≡ fresh (s .header .policy)
+pub power-on-fresh : (s : State) → WellFormed s → step s (Condition PowerOn) ≡ fresh (lasting (s .header))
 unfolding step ruling ruleFor happen fresh
 power-on-fresh s w = λ i. record { header = head i; pending = pend i; tasks = none-left i }
   where
@@ -106,7 +106,7 @@ power-on-fresh s w = λ i. record { header = head i; pending = pend i; tasks = n
     none-left : after ≡ []
     none-left = rw (all-end (fateOf AllTasks) (s .tasks) (λ t. refl) .0)
 
-    head : record { policy = s .header .policy; count = length after; aca = Clear; run = 0 } ≡ (fresh (s .header .policy)) .header
+    head : lastingWith (s .header) (length after) Clear 0 ≡ freshHeader (lasting (s .header))
     head = rw (all-end (fateOf AllTasks) (s .tasks) (λ t. refl) .0)
 
     pend : map afterPowerOn (s .pending) ≡ replicate nexuses (afterPowerOn noPending)

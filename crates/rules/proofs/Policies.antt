@@ -1,9 +1,10 @@
--- "Policy survives all."
+-- "Policy survives all.": what lasts of the header is as it was after every event.
 use Prim.Native.Nat.{ℕ}
 use mathlib.Core.Bool.{Bool}
 use mathlib.Core.Path.{_≡_, refl}
 use lib.Dec.{eqb}
 use Rattle.laws.proofs.Bools.{cases}
+use Rattle.values.specs.Headers.{lasting}
 use Rattle.rules.specs.Types.{Task, Finish, Good, CheckCondition, Function, AbortTask, AbortTaskSet, ClearTaskSet, ClearAca, LogicalUnitReset, Unknown, Happening, PowerOn, HardReset, NexusLoss, Event, Allegiance, Clear, Faulted, Changes, Done, Ruling}
 use Rattle.rules.specs.Rulings.{State, ruled}
 use Rattle.rules.specs.Rules.{finish, clearing, manage, happen, ruling}
@@ -11,7 +12,7 @@ use Rattle.rules.proofs.Cases.{enter-cases, completion-cases, other-cas
 
 module _ (s : State) where
   abbrev survives : Ruling → Type 0
-  survives r = ruled s r .header .policy ≡ s .header .policy
+  survives r = lasting (ruled s r .header) ≡ lasting (s .header)
 
   by-finish : (f : Finish) (t : Task) (named : Bool) → survives (Changes Done (finish (s .header) f t named))
   by-finish Good t named = refl
@@ -36,11 +37,11 @@ module _ (s : State) where
   by-condition HardReset = refl
   by-condition (NexusLoss n) = refl
 
-  pub policy-survives : (e : Event) → ruled s (ruling s e) .header .policy ≡ s .header .policy
-  policy-survives e =
+  pub what-lasts : (e : Event) → lasting (ruled s (ruling s e) .header) ≡ lasting (s .header)
+  what-lasts e =
       other-cases (λ v r. survives r) s (λ v. refl)
       (λ n g f. completion-cases survives s n g f refl refl refl (λ t l h k. by-finish f t _))
-      (λ c l. enter-cases survives (s .header) c _ _ _ refl (λ st se. refl) (λ b. refl) (λ p q r k. refl))
+      (λ c l. enter-cases survives (s .header) c _ _ _ (λ se w o. refl) (λ st. refl) (λ p. refl))
       by-function
       by-condition
       e

@@ -14,12 +14,12 @@ use Rattle.rules.specs.Types.{Simple, HeadOfQueue, Ordered, Aca, Task, A
 use Rattle.rules.specs.Tasks.{isAca, isEnabled, acaTask, same, enabledTask, isNamed}
 use Rattle.rules.specs.Bits.{top}
 use Rattle.rules.specs.Rulings.{State, pendingOf, turn, answerOf}
-use Rattle.rules.specs.Rules.{asksAca, check2, badAttribute, complete, clearing, manage, happen, nexusOf, ruleFor, ruling, answer}
+use Rattle.rules.specs.Rules.{asksAca, badAttribute, complete, clearing, manage, happen, nexusOf, ruleFor, ruling, answer}
 use Rattle.rules.specs.Well.{WellFormed}
 use Rattle.rules.specs.Attentions.{ranks, isSet}
 use Rattle.rules.specs.Refusals.{Absent, no-such-task, Waits, not-enabled, Stopped, overlapped, other-nexus, other-attribute, aca-task-present, unit-attention, none-of-four, aca-without-aca, full, EndsAtEntry, at-entry, EntryStatus, check-condition, busy, task-set-full, aca-active, RejectedBy, unknown-function, not-faulted}
 use Rattle.rules.proofs.Distinct.{distinct-first}
-use Rattle.rules.proofs.Cases.{check-cases, check2-none, ruling-low, ruling-high, rule-command, rule-completion, rule-management}
+use Rattle.rules.proofs.Cases.{stop, check-cases, Passed, enter-cases, check2-none, ruling-low, ruling-high, rule-command, rule-completion, rule-management}
 use Rattle.rules.proofs.WellSays.{says-tested}
 use Rattle.rules.proofs.Attentions.{every-bit}
 use Rattle.rules.proofs.FieldErrors.{topIs, top-first}
@@ -76,20 +76,19 @@ module _ (s : State) (c : Entry) where
 
   -- a command that all checks let pass is not stopped
   not-stopped :
-      WellFormed s → any (same (c .nexus) (c .tag)) (s .tasks) ≡ false → check2 (s .header .aca) c (any acaTask (s .tasks)) ≡ none
-      → cond (c .exempt) NoBit (top (pendingOf s (c .nexus))) ≡ NoBit → badAttribute (s .header .aca) (c .asked) ≡ false
-      → leb 64 (s .header .count) ≡ false → Stopped s c → ⊥
-  not-stopped w n1 n2 n3 n4 n5 (overlapped e) = not-both e n1
-  not-stopped w n1 n2 n3 n4 n5 (other-nexus {f} a ne) =
-      ne (eqb-true (c .nexus) f (check2-none f c (any acaTask (s .tasks)) (rw a at n2) .0))
-  not-stopped w n1 n2 n3 n4 n5 (other-attribute {f} a ne) =
-      ne (asks-known (c .asked) (check2-none f c (any acaTask (s .tasks)) (rw a at n2) .1))
-  not-stopped w n1 n2 n3 n4 n5 (aca-task-present {f} a e) =
-      not-both e (check2-none f c (any acaTask (s .tasks)) (rw a at n2) .2)
-  not-stopped w n1 n2 n3 n4 n5 (unit-attention b x e) = not-both e (no-bit (pendingOf s (c .nexus)) b (rw x at n3))
-  not-stopped w n1 n2 n3 n4 n5 (none-of-four e) = not-both refl (rw e at n4)
-  not-stopped w n1 n2 n3 n4 n5 (aca-without-aca e a) = not-both refl (rw (e, a) at n4)
-  not-stopped w n1 n2 n3 n4 n5 (full e) = omega (arith, leb-false 64 (s .header .count) n5, w .counted)
+      WellFormed s → Passed (s .header) c (any (same (c .nexus) (c .tag)) (s .tasks)) (any acaTask (s .tasks)) (pendingOf s (c .nexus))
+      → Stopped s c → ⊥
+  not-stopped w p (overlapped e) = not-both e (p .not-overlapped)
+  not-stopped w p (other-nexus {f} a ne) =
+      ne (eqb-true (c .nexus) f (check2-none f c (any acaTask (s .tasks)) (rw a at (p .aca-lets-it)) .0))
+  not-stopped w p (other-attribute {f} a ne) =
+      ne (asks-known (c .asked) (check2-none f c (any acaTask (s .tasks)) (rw a at (p .aca-lets-it)) .1))
+  not-stopped w p (aca-task-present {f} a e) =
+      not-both e (check2-none f c (any acaTask (s .tasks)) (rw a at (p .aca-lets-it)) .2)
+  not-stopped w p (unit-attention b x e) = not-both e (no-bit (pendingOf s (c .nexus)) b (rw x at (p .no-attention)))
+  not-stopped w p (none-of-four e) = not-both refl (rw e at (p .attribute-good))
+  not-stopped w p (aca-without-aca e a) = not-both refl (rw (e, a) at (p .attribute-good))
+  not-stopped w p (full e) = omega (arith, leb-false 64 (s .header .count) (p .room), w .counted)
 
 -- What each answer says --------------------------------------------------------------------------------------------------------------------
 
@@ -116,17 +115,18 @@ module _ (s : State) where
       rw (rule-command s c)
       (check-cases (λ r. Says s (Command c) (answerOf r)) (s .header) c (any (same (c .nexus) (c .tag)) (s .tasks)) (any acaTask (s .tasks))
       (pendingOf s (c .nexus))
-      (λ n1. (λ w. at-entry (overlapped n1), checks))
-      (λ n1 f a e k. (λ w. at-entry (active-stops s c f a k), no-sense aca-active))
-      (λ n1 f a e.
-      (λ w. at-entry (other-nexus a (eqb-false (c .nexus) f e)), no-sense (cases EntryStatus (c .naca) (λ k. aca-active) (λ k. busy))))
-      (λ n1 n2 b e. let q = bit-set (c .exempt) (pendingOf s (c .nexus)) b e in (λ w. at-entry (unit-attention b (q .0) (q .1)), checks))
-      (λ n1 n2 n3 n4. (λ w. at-entry (bad-stops s c n4), checks))
-      (λ n1 n2 n3 n4 n5. (λ w. at-entry (full-stops s c w n5), no-sense task-set-full))
-      (λ n1 n2 n3 n4 n5. tt))
+      (stop (λ y. (λ w. at-entry (overlapped y), with-sense)) λ n1.
+      stop (
+        λ f a e k. (λ w. at-entry (active-stops s c f a k), no-sense aca-active),
+        λ f a e. (λ w. at-entry (other-nexus a (eqb-false (c .nexus) f e)), no-sense (cases EntryStatus (c .naca) (λ k. aca-active) (λ k. busy))),
+      ) λ n2.
+      stop (λ b e. let q = bit-set (c .exempt) (pendingOf s (c .nexus)) b e in (λ w. at-entry (unit-attention b (q .0) (q .1)), with-sense)) λ n3.
+      stop (λ y. (λ w. at-entry (bad-stops s c y), with-sense)) λ n4.
+      stop (λ y. (λ w. at-entry (full-stops s c w y), no-sense task-set-full)) λ n5.
+      tt))
     where
-      checks : {se : Sense} → Fits 0x02 se
-      checks = record { status = check-condition; sense = λ n. absurd (n refl) }
+      with-sense : {se : Sense} → Fits 0x02 se
+      with-sense = record { status = check-condition; sense = λ n. absurd (n refl) }
 
       no-sense : {st : ℕ} → EntryStatus st → Fits st (record { key = 0; code = 0; qualifier = 0 })
       no-sense k = record { status = k; sense = λ n. refl }
@@ -233,17 +233,13 @@ entry-says s e w low = (λ a. (rw (a .2) at (says s e)) .0 w, back e low)
     back : (e : Event) → nexusOf e < 8 → EndsAtEntry s e → (st : ℕ) × (se : Sense) × (answer s e ≡ EndedAtEntry st se)
     back (Command c) l (at-entry x) =
         rw (answer-low s (Command c) l, rule-command s c)
-        (check-cases (λ r. (st : ℕ) × (se : Sense) × (answerOf r ≡ EndedAtEntry st se)) (s .header) c
+        (enter-cases (λ r. (st : ℕ) × (se : Sense) × (answerOf r ≡ EndedAtEntry st se)) (s .header) c
         (any (same (c .nexus) (c .tag)) (s .tasks))
         (any acaTask (s .tasks))
         (pendingOf s (c .nexus))
-        (λ n1. (_, _, refl))
-        (λ n1 f a e k. (_, _, refl))
-        (λ n1 f a e. (_, _, refl))
-        (λ n1 n2 b e. (_, _, refl))
-        (λ n1 n2 n3 n4. (_, _, refl))
-        (λ n1 n2 n3 n4 n5. (_, _, refl))
-        (λ n1 n2 n3 n4 n5. absurd (not-stopped s c w n1 n2 n3 n4 n5 x)))
+        (λ se v o. (_, _, refl))
+        (λ st. (_, _, refl))
+        (λ p. absurd (not-stopped s c w p x)))
 
 -- "8 | function rejected": exactly where the function is unknown, or CLEAR ACA from another nexus than the faulted one
 pub rejected-says : (s : State) (e : Event) → nexusOf e < 8 → (answer s e ≡ Rejected) ↔ RejectedBy s e

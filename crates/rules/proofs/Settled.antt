@@ -87,6 +87,13 @@ settled-settle older (t ∷ ts) e =
     let o = or-false (isAca (t .attribute)) (any acaTask ts) e in
     rw (o .0, state-same (enabledIf (eligible older (t .attribute)))) (settled-settle (t .attribute ∷ older) ts (o .1))
 
+-- and a settled table stays as it is
+pub settle-settled : (older : List Attribute) (ts : List Task) → settled older ts ≡ true → settleFrom older ts ≡ ts
+settle-settled older [] e = refl
+settle-settled older (t ∷ ts) e =
+    let o = settled-cons older t ts e in
+    rw (← (o .state), settle-settled (t .attribute ∷ older) ts (o .rest))
+
 pub settled-ordinary : (older : List Attribute) (ts : List Task) → settled older ts ≡ true → any acaTask ts ≡ false
 settled-ordinary older [] e = refl
 settled-ordinary older (t ∷ ts) e =

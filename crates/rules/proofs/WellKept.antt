@@ -222,15 +222,14 @@ fair-enter :
 unfolding newTask
 fair-enter s c p w l =
     enter-cases (FairR s) (s .header) c (any (same (c .nexus) (c .tag)) (s .tasks)) (any acaTask (s .tasks)) p
-    (fair-sweeping s _ w)
-    (λ st se. tt)
-    (λ b. fair-same s _ (s .header .run) _ w (w .run))
-    λ n1 n2 n4 n5.
+    (λ se v o. fair-same s v (s .header .run) _ w (w .run))
+    (λ st. tt)
+    λ k.
     record {
       run = w .run;
       fault = w .fault;
-      joining = (lt-leb 8 (c .nexus) l, n1, omega (arith, leb-false 64 (s .header .count) n5, w .counted));
-      allowed = allowed-accept (s .header .aca) (s .tasks) _ c (w .states) n2 n4;
+      joining = (lt-leb 8 (c .nexus) l, k .not-overlapped, omega (arith, leb-false 64 (s .header .count) (k .room), w .counted));
+      allowed = allowed-accept (s .header .aca) (s .tasks) _ c (w .states) (k .aca-lets-it) (k .attribute-good);
     }
 
 -- Completion

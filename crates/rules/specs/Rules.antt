@@ -1,9 +1,16 @@
 -- What the rules decide about each event: document 01, "Entry of a command, checks in order" and "Ends, ACA and aborts".
 --
+--   sense k c q              := a sense: key, code, qualifier
+--   reporting n o            := the notice that the bit o of nexus n is reported, if it is one
+--   checkCondition h c se w o  := the command c ends at entry with 02h and the sense se; those whom the check's own sweep w names end, and the
+--                               bit o is reported, if it is one
+--   bitToReport c p          := the bit of the pending bits p that check 3 reports to the command c, if there is one
 --   check1 .. check5 ..      := the ruling of that check, or none where the command goes on
 --   newTask c                := the accepted command as a task
---   enter h c here aca p     := the ruling on the command c, by the header; whether a task of its nexus and tag is here; whether an ACA task is
---                               here; and the pending bits p of its nexus
+--   checks h c here aca p    := the checks of the command c in their order, by the header; whether a task of its nexus and tag is here; whether an
+--                               ACA task is here; and the pending bits p of its nexus
+--   byChecks cs h c          := the ruling on the command c by the checks cs: that of the first that rules, else it is accepted
+--   enter h c here aca p     := the ruling on the command c, by the same
 --   finish h f t itsTurn     := the change when the enabled task t ends by f; itsTurn: it is the one whose turn it is
 --   complete h o f itsTurn   := the ruling on a completion, by the task o of that nexus and tag, if there is one
 --   manage h n f, happen h c := the ruling on the function f from nexus n; on a condition
@@ -16,7 +23,7 @@ use mathlib.Core.List.{List, [], _∷_}
 use mathlib.Core.Option.{Option, none, some}
 use lib.Dec.{eqb, ltb, leb}
 use Rattle.laws.specs.Lists.{any, first}
-use Rattle.rules.specs.Types.{Attribute, TaskState, Task, Asked, Entry, Finish, Function, Happening, Event, Qerr, Allegiance, Header, Pending, Top, Ended, Sweep, Notice, Joins, Change, Answer, Ruling}
+use Rattle.rules.specs.Types.{Attribute, TaskState, Task, Asked, Entry, Finish, Function, Happening, Event, Qerr, Allegiance, Header, Pending, Top, Sense, Ended, Sweep, Notice, Joins, Change, Answer, Ruling}
 use Rattle.values.specs.Headers.{withAca, withRun, runNext}
 use Rattle.rules.specs.Tasks.{places, nexuses, isAca, isEnabled, acaTask, same, isNamed}
 use Rattle.rules.specs.Bits.{top, senseFor}
@@ -26,12 +33,24 @@ use Rattle.rules.specs.Rulings.{State, isClear, pendingOf, turn, ruled, 
 abbrev pub sweeping : Header → Sweep → Change
 sweeping h w = record { sweep = w; joins = Joins.NoTask; header = h; notice = Notice.Quiet }
 
+-- "sense (key, code, qualifier)" ("Answer numbers")
+abbrev pub sense : ℕ → ℕ → ℕ → Sense
+sense k c q = record { key = k; code = c; qualifier = q }
+
 -- "sense .. is 0 except under 7 with status 02h" ("Answer numbers")
 abbrev pub endedWith : ℕ → Answer
-endedWith st = Answer.EndedAtEntry st (record { key = 0; code = 0; qualifier = 0 })
+endedWith st = Answer.EndedAtEntry st (sense 0 0 0)
 
-abbrev pub checked : ℕ → ℕ → ℕ → Answer
-checked k c q = Answer.EndedAtEntry 0x02 (record { key = k; code = c; qualifier = q })
+-- "the highest rank is reported .. and that bit is cleared"
+abbrev pub reporting : ℕ → Top → Notice
+reporting n Top.NoBit = Notice.Quiet
+reporting n (Top.Highest b) = Notice.Reported n b
+
+-- Checks 1, 3 and 4 end a command with CHECK CONDITION 02h.
+-- "A command ended at entry neither sets up an ACA nor applies QERR.": the header stays, and nobody ends but by the check's own sweep
+abbrev pub checkCondition : Header → Entry → Sense → Sweep → Top → Ruling
+checkCondition h c se w o =
+    Ruling.Changes (Answer.EndedAtEntry 0x02 se) (record { sweep = w; joins = Joins.NoTask; header = h; notice = reporting (c .nexus) o })
 
 abbrev pub onlyIf : Bool → Ruling → Option Ruling
 onlyIf true r = some r
@@ -40,7 +59,7 @@ onlyIf false r = none
 -- "1. Same nexus and tag in the table (overlapped command): every task of that nexus ends with FFh; CHECK CONDITION 02h, sense Bh/4Eh/00h.
 -- An ACA stays."
 abbrev pub check1 : Header → Entry → Bool → Option Ruling
-check1 h c here = onlyIf here (Ruling.Changes (checked 0xB 0x4E 0x00) (sweeping h (Sweep.NexusTasks (c .nexus))))
+check1 h c here = onlyIf here (checkCondition h c (sense 0xB 0x4E 0x00) (Sweep.NexusTasks (c .nexus)) Top.NoBit)
 
 abbrev pub asksAca : Asked → Bool
 asksAca (Asked.Known a) = isAca a
@@ -55,20 +74,22 @@ check2 (Allegiance.Faulted f) c aca =
     (onlyIf (not (asksAca (c .asked) && not aca)) (Ruling.Keeps (endedWith 0x30)))
     (some (Ruling.Keeps (endedWith (cond (c .naca) 0x30 0x08))))
 
+-- "Not exempt and a pending bit set: the highest rank"
+abbrev pub bitToReport : Entry → Pending → Top
+bitToReport c p = cond (c .exempt) Top.NoBit (top p)
+
 -- "3. Not exempt and a pending bit set: the highest rank is reported, 02h with 6h/code, and that bit is cleared."
-abbrev pub check3 : Header → ℕ → Top → Option Ruling
-check3 h n Top.NoBit = none
-check3 h n (Top.Highest b) =
-    some
-    (Ruling.Changes (Answer.EndedAtEntry 0x02 (senseFor b)) (record { sweep = Sweep.Nobody; joins = Joins.NoTask; header = h; notice = Notice.Reported n b }))
+abbrev pub check3 : Header → Entry → Top → Option Ruling
+check3 h c Top.NoBit = none
+check3 h c (Top.Highest b) = some (checkCondition h c (senseFor b) Sweep.Nobody (Top.Highest b))
 
 abbrev pub badAttribute : Allegiance → Asked → Bool
 badAttribute a Asked.NoneOfFour = true
 badAttribute a (Asked.Known t) = isAca t && isClear a
 
 -- "4. Attribute not 0, 1, 2, 4, or 4 without ACA: 02h, 5h/49h/00h (002, clause 5.9.5)."
-abbrev pub check4 : Allegiance → Entry → Option Ruling
-check4 a c = onlyIf (badAttribute a (c .asked)) (Ruling.Keeps (checked 0x5 0x49 0x00))
+abbrev pub check4 : Header → Entry → Option Ruling
+check4 h c = onlyIf (badAttribute (h .aca) (c .asked)) (checkCondition h c (sense 0x5 0x49 0x00) Sweep.Nobody Top.NoBit)
 
 -- "5. 64 tasks: TASK SET FULL 28h."
 abbrev pub check5 : Header → Option Ruling
@@ -93,16 +114,21 @@ firstThatRules [] r = r
 firstThatRules (none ∷ cs) r = firstThatRules cs r
 firstThatRules (some q ∷ cs) r = q
 
-unfoldable pub enter : Header → Entry → Bool → Bool → Pending → Ruling
-enter h c here aca p =
-    firstThatRules
-    (check1 h c here
+-- "Entry of a command, checks in order"
+abbrev pub checks : Header → Entry → Bool → Bool → Pending → List (Option Ruling)
+checks h c here aca p =
+    check1 h c here
     ∷ check2 (h .aca) c aca
-    ∷ check3 h (c .nexus) (cond (c .exempt) Top.NoBit (top p))
-    ∷ check4 (h .aca) c
+    ∷ check3 h c (bitToReport c p)
+    ∷ check4 h c
     ∷ check5 h
-    ∷ [])
-    (Ruling.Changes Answer.Done (accepting h c))
+    ∷ []
+
+abbrev pub byChecks : List (Option Ruling) → Header → Entry → Ruling
+byChecks cs h c = firstThatRules cs (Ruling.Changes Answer.Done (accepting h c))
+
+unfoldable pub enter : Header → Entry → Bool → Bool → Pending → Ruling
+enter h c here aca p = byChecks (checks h c here aca p) h c
 
 -- "If TAS is 0, each other nexus that lost a task so gets bit 4."
 abbrev pub toldWithoutTas : Bool → ℕ → Notice

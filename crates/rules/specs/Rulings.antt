@@ -19,7 +19,7 @@ use mathlib.Core.List.{List, [], _∷_, _++_, map}
 use lib.Dec.{eqb}
 use lib.ListN.{length, getD, set, replicate}
 use Rattle.laws.specs.Lists.{any}
-use Rattle.values.specs.Headers.{withCount}
+use Rattle.values.specs.Headers.{freshHeader, withCount}
 use Rattle.rules.specs.Types.{Task, Policy, Qerr, Allegiance, Header, Pending, Named, Turn, Fate, Ended, Sweep, Notice, Joins, Change, Answer, Ruling}
 use Rattle.rules.specs.Tasks.{nexuses, acaTask, ofNexus, same, restate, whoseTurn, turnOf}
 use Rattle.rules.specs.Bits.{noPending, without, afterPowerOn, afterHardReset, afterUnitReset, afterNexusLoss, afterCleared}
@@ -43,7 +43,7 @@ turn s = turnOf (whoseTurn (s .header .aca) (s .header .run) (s .tasks))
 unfoldable pub fresh : Policy → State
 fresh p =
     record {
-      header = record { policy = p; count = 0; aca = Allegiance.Clear; run = 0 };
+      header = freshHeader p;
       pending = replicate nexuses (afterPowerOn noPending);
       tasks = [];
     }

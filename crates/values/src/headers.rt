@@ -2,48 +2,55 @@
 use crate::Allegiance;
 use crate::Attribute;
 use crate::Header;
+use crate::Policy;
 ghost use mathlib.Core.Path.{_≡_};
 ghost use mathlib.Core.Bool.{cond};
 ghost use Prim.Native.Nat.{_+_, min};
-ghost use Rattle.values.specs.Headers.{withCount, withAca, withRun, runAfter, runNext};
+ghost use Rattle.values.specs.Headers.{lastingWith, freshHeader, withCount, withAca, withRun, runAfter, runNext};
 
 impl Header {
+    pub fn fresh(policy: Policy) -> Header
+        ensures { λ r. ⌜ r ≡ freshHeader policy ⌝ }
+    {
+        Header {
+            policy: policy,
+            count: 0,
+            aca: Allegiance::Clear,
+            run: 0,
+        }
+    }
+
+    // What lasts stays; the rest is given.
+    fn lasting_with(self, count: u8, aca: Allegiance, run: u8) -> Header
+        ensures { λ r. ⌜ r ≡ lastingWith self count aca run ⌝ }
+    {
+        let policy = self.policy;
+        Header {
+            policy: policy,
+            count: count,
+            aca: aca,
+            run: run,
+        }
+    }
+
     pub fn with_count(self, n: u8) -> Header
         ensures { λ r. ⌜ r ≡ withCount self n ⌝ }
     {
-        let policy = self.policy;
         let aca = self.aca;
-        Header {
-            policy: policy,
-            count: n,
-            aca: aca,
-            run: self.run,
-        }
+        self.lasting_with(n, aca, self.run)
     }
 
     pub fn with_aca(self, aca: Allegiance) -> Header
         ensures { λ r. ⌜ r ≡ withAca self aca ⌝ }
     {
-        let policy = self.policy;
-        Header {
-            policy: policy,
-            count: self.count,
-            aca: aca,
-            run: self.run,
-        }
+        self.lasting_with(self.count, aca, self.run)
     }
 
     pub fn with_run(self, run: u8) -> Header
         ensures { λ r. ⌜ r ≡ withRun self run ⌝ }
     {
-        let policy = self.policy;
         let aca = self.aca;
-        Header {
-            policy: policy,
-            count: self.count,
-            aca: aca,
-            run: run,
-        }
+        self.lasting_with(self.count, aca, run)
     }
 
     // "An accepted completion of the named task sets run .. Other completions .. leave it."

@@ -18,7 +18,7 @@ carry-out-spec =
       report = start .pre .1;
       counted = ap (λ (h : Header). h .count) (start .pre .2);
       aca = ap (λ (h : Header). h .aca) (start .pre .2);
-      policy = rw (r .given .1) at (start .pre .4);
+      lasts = rw (r .given .1) at (start .pre .4);
       well = rw (r .given .1) at (start .pre .3);
     })
     (λ c. search needs) (λ c. search needs)

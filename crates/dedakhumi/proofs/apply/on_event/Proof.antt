@@ -1,7 +1,7 @@
 use borrow.Author.Needs.{needs}
 use native.Mathlib.Omega.{arith}
 use Rattle.rules.specs.Rules.{ruling}
-use Rattle.rules.proofs.Policies.{policy-survives}
+use Rattle.rules.proofs.Policies.{what-lasts}
 use Rattle.rules.proofs.WellKept.{tested-ruling, from-tested}
 use Rattle.rules.specs.Rulings.{ruled}
 use Rattle.records.specs.Tables.{stateOf}
@@ -40,7 +40,7 @@ on-event-spec =
       h,
       rw (rule .rule .ensures, ruling-read t (read .header-from .result) (start .pre .0) h e (start .pre .2))
           (from-tested (ruled (stateOf t) (ruling (stateOf t) e)) (tested-ruling (stateOf t) e (good-tested t (start .pre .0)))),
-      rw (rule .rule .ensures, ruling-read t (read .header-from .result) (start .pre .0) h e (start .pre .2)) (policy-survives (stateOf t) e),
+      rw (rule .rule .ensures, ruling-read t (read .header-from .result) (start .pre .0) h e (start .pre .2)) (what-lasts (stateOf t) e),
     ))
     (λ c. search needs) (λ c. search needs)
     (λ c.

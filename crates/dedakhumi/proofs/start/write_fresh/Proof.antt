@@ -1,4 +1,5 @@
 use borrow.Author.Needs.{needs}
+use mathlib.Core.Path.{refl}
 use Rattle.rules.specs.Rulings.{fresh}
 use Rattle.records.specs.Numbers.{policyFrom}
 use Rattle.dedakhumi.proofs.Fresh.{fresh-bytes}
@@ -10,13 +11,14 @@ unfolding fresh
 write-fresh-spec =
     tie.close
     (tie.spec
-    (λ c κs. search needs) (λ c κs. search needs) (λ c κs. search needs) (λ c κs. search needs) (λ c κs. search needs)
-    (λ c. search needs)
+    (λ c κs. search needs) (λ c κs. search needs)
+    (λ c κs. rw (c .before .fresh .ensures) refl)
+    (λ c κs. search needs) (λ c κs. search needs) (λ c κs. search needs) (λ c. search needs)
     (λ c.
     let tasks = c .before .before in
     let told = tasks .before .before .before .before in
     let put = told .before .before .before .before in
     let made = put .before .before .before in
-    let a = made .before .before .args in
-    rw (tasks .vacate .ensures, told .write-nexuses .ensures, put .put-untagged .ensures, put .before .header-bytes .ensures, made .policy-from .ensures)
-    (fresh-bytes (policyFrom (a .policy)) (a .t .now) (made .before .before .pre))))
+    let start = made .before .before .before in
+    rw (tasks .vacate .ensures, told .write-nexuses .ensures, put .put-untagged .ensures, put .before .header-bytes .ensures, made .fresh .ensures, made .before .policy-from .ensures)
+    (fresh-bytes (policyFrom (start .args .policy)) (start .args .t .now) (start .pre))))
