@@ -1,3 +1,4 @@
+pub mod Advanced
 pub mod Reached
 pub mod Conserve
 pub mod Identity
