@@ -7,12 +7,13 @@ use native.Mathlib.Omega.{arith}
 use lib.Dec.{eqb, leb}
 use lib.ListN.{length, getD, take, drop}
 use lib.Seq.{getD-drop, getD-take}
-use borrow.Author.Tests.{eqb-true, eqb-false, eq-eqb, ne-eqb, lt-ltb, le-leb, lt-leb, leb-false}
+use borrow.Author.Tests.{eqb-true, eqb-false, eq-eqb, ne-eqb, lt-ltb, lt-leb, leb-false}
 use Rattle.laws.specs.Lists.{any, isNil}
 use Rattle.laws.specs.RecordsInLists.{recordAt}
 use Rattle.laws.proofs.Bools.{and-true, or-false, split}
 use Rattle.rules.specs.Tasks.{same}
 use Rattle.rules.specs.Well.{statesFit, faultFits, distinct, tooHigh, wellFormed}
+use Rattle.rules.proofs.WellParts.{well-formed-parts}
 use Rattle.records.specs.Numbers.{tagFrom, acaFrom}
 use Rattle.records.specs.Records.{headerFrom, headerFits, taskFrom, taskFits}
 use Rattle.records.specs.Tables.{Bytes, tasksFrom, stateOf, nexusesFit, tasksFit, unusedFit, goodTable}
@@ -128,21 +129,18 @@ well-is :
     → wellFormed (stateOf b)
     ≡ distinct (tasksFrom (getD b 4 0) (drop 72 b))
     && statesFit ((headerFrom (recordAt 8 b 0)) .aca) (tasksFrom (getD b 4 0) (drop 72 b))
-unfolding wellFormed stateOf
+unfolding stateOf
 well-is b long h t =
     let n = getD b 4 0 in
-    let ts = tasksFrom n (drop 72 b) in
     let f = header-good b (omega arith) h in
     let byte : (i : ℕ) → i < 8 → getD (recordAt 8 b 0) i 0 ≡ getD b i 0 = λ i l. getD-take 8 b i 0 l in
-    let few : leb (length ts) 64 ≡ true = le-leb (length ts) 64 (omega (arith, f .1, length-tasks-from n (drop 72 b))) in
-    let counted : eqb (getD (recordAt 8 b 0) 4 0) (length ts) ≡ true =
-    eq-eqb (getD (recordAt 8 b 0) 4 0) (length ts) (byte 4 (omega arith) ∙ sym (length-tasks-from n (drop 72 b)))
-    in
-    let run : leb (getD (recordAt 8 b 0) 6 0) 4 ≡ true = le-leb (getD (recordAt 8 b 0) 6 0) 4 (omega (arith, f .3, byte 6 (omega arith))) in
-    let fault : faultFits (acaFrom (getD (recordAt 8 b 0) 5 0)) ≡ true =
-    aca-fits (getD (recordAt 8 b 0) 5 0) (omega (arith, f .2, byte 5 (omega arith)))
-    in
-    rw (run, few, counted, length-pendings-from 8 (drop 8 b), fault, nexuses-low n (drop 72 b) t)
+    well-formed-parts (stateOf b)
+    (omega (arith, f .3, byte 6 (omega arith)))
+    (omega (arith, f .1, length-tasks-from n (drop 72 b)))
+    (byte 4 (omega arith) ∙ sym (length-tasks-from n (drop 72 b)))
+    (length-pendings-from 8 (drop 8 b))
+    (aca-fits (getD (recordAt 8 b 0) 5 0) (omega (arith, f .2, byte 5 (omega arith))))
+    (nexuses-low n (drop 72 b) t)
 
 -- code's order is the paper's
 pub table-test-is : (b : List ℕ) → Bytes b → tableTest b ≡ goodTable b
