@@ -8,13 +8,14 @@ use lib.Dec.{eqb}
 use lib.ListN.{length}
 use borrow.Author.Tests.{eqb-true, eqb-false}
 use Rattle.laws.proofs.Bools.{split, not-both}
+use Rattle.rules.specs.Tasks.{nexuses}
 use Rattle.rules.specs.Rulings.{State, turn, answerOf}
 use Rattle.rules.specs.Rules.{nexusOf, ruling, answer}
 use Rattle.rules.specs.Refusals.{Absent, Waits, EndsAtEntry, RejectedBy}
 use Rattle.rules.proofs.Ruled.{answer-ruled}
 use Rattle.rules.proofs.Refusals.{nexus-says, absent-says, waits-says, entry-says, rejected-says, answered-by}
 use Rattle.records.specs.Numbers.{policyFits}
-use Rattle.records.specs.Tables.{stateOf, GoodTable, goodTable}
+use Rattle.records.specs.Tables.{tableSize, reportSize, stateOf, GoodTable, goodTable}
 use Rattle.records.specs.Events.{eventOf}
 use Rattle.records.proofs.GoodSays.{good-table-says}
 use Rattle.records.proofs.EventsSay.{bad-event-says}
@@ -44,9 +45,9 @@ module _ (t r e : List ℕ) where
   abbrev pub Reason : ℕ → Type 0
   Reason zero = (v : Event) × Reaches t r e v
   Reason (suc zero) = GoodTable t → ⊥
-  Reason (suc (suc zero)) = GoodTable t × (length r ≡ 512 → ⊥)
-  Reason (suc (suc (suc zero))) = GoodTable t × (length r ≡ 512) × (eventOf e ≡ Unreadable)
-  Reason (suc (suc (suc (suc zero)))) = GoodTable t × (length r ≡ 512) × ((v : Event) × (eventOf e ≡ Readable v) × (8 ≤ nexusOf v))
+  Reason (suc (suc zero)) = GoodTable t × (length r ≡ reportSize → ⊥)
+  Reason (suc (suc (suc zero))) = GoodTable t × (length r ≡ reportSize) × (eventOf e ≡ Unreadable)
+  Reason (suc (suc (suc (suc zero)))) = GoodTable t × (length r ≡ reportSize) × ((v : Event) × (eventOf e ≡ Readable v) × (nexuses ≤ nexusOf v))
   Reason (suc (suc (suc (suc (suc zero))))) = RuledBy Absent
   Reason (suc (suc (suc (suc (suc (suc zero)))))) = RuledBy Waits
   Reason (suc (suc (suc (suc (suc (suc (suc zero))))))) = RuledBy EndsAtEntry
@@ -119,19 +120,19 @@ module _ (t : List ℕ) where
   name-is-zero : nameNumber t ≡ 0 → GoodTable t
   name-is-zero q = good-or-bad (λ w. w) (λ n. absurd (omega (arith, ap (λ u. u .answer) (bad-named n))))
 
-start-is-zero : (t : List ℕ) (p : ℕ) → startNumber t p ≡ 0 → (length t ≡ 584) × (policyFits p ≡ true)
+start-is-zero : (t : List ℕ) (p : ℕ) → startNumber t p ≡ 0 → (length t ≡ tableSize) × (policyFits p ≡ true)
 start-is-zero t p q =
-    split (eqb (length t) 584)
+    split (eqb (length t) tableSize)
     (λ l. (
-      eqb-true (length t) 584 l,
-      split (policyFits p) (λ f. f) (λ f. absurd (omega (arith, zero-not f (eqb-true (length t) 584 l)))),
+      eqb-true (length t) tableSize l,
+      split (policyFits p) (λ f. f) (λ f. absurd (omega (arith, zero-not f (eqb-true (length t) tableSize l)))),
     ))
-    (λ l. absurd (omega (arith, one-not (eqb-false (length t) 584 l))))
+    (λ l. absurd (omega (arith, one-not (eqb-false (length t) tableSize l))))
   where
-    one-not : (length t ≡ 584 → ⊥) → startNumber t p ≡ 1
+    one-not : (length t ≡ tableSize → ⊥) → startNumber t p ≡ 1
     one-not n = rw (startNumber, no-room t p n)
 
-    zero-not : policyFits p ≡ false → length t ≡ 584 → startNumber t p ≡ 9
+    zero-not : policyFits p ≡ false → length t ≡ tableSize → startNumber t p ≡ 9
     zero-not f l = rw (startNumber, no-policy t p l f)
 
 -- The demand ------------------------------------------------------------------------------------------------------------------------------------
@@ -182,13 +183,13 @@ demand1 =
           (λ w l v u h. ruled-fields (stateOf t) v t r (w .well .few));
       start-length =
           λ t p. (
-            started-cases (λ o. numberOf (o .answer) ≡ 1 → length t ≡ 584 → ⊥) t p (λ n q. n) (λ l f q. absurd (omega arith))
+            started-cases (λ o. numberOf (o .answer) ≡ 1 → length t ≡ tableSize → ⊥) t p (λ n q. n) (λ l f q. absurd (omega arith))
                 (λ q. absurd (omega arith)),
             λ n. rw (startNumber, no-room t p n),
           );
       start-policy =
           λ t p. (
-            started-cases (λ o. numberOf (o .answer) ≡ 9 → (length t ≡ 584) × (policyFits p ≡ false)) t p (λ n q. absurd (omega arith))
+            started-cases (λ o. numberOf (o .answer) ≡ 9 → (length t ≡ tableSize) × (policyFits p ≡ false)) t p (λ n q. absurd (omega arith))
                 (λ l f q. (l, f))
                 (λ q. absurd (omega arith)),
             λ h. rw (startNumber, no-policy t p (h .0) (h .1)),

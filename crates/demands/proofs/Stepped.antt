@@ -3,6 +3,7 @@ use Prim.Native.Nat.{ℕ, _<_}
 use mathlib.Core.Path.{_≡_, refl, ap, sym, _∙_}
 use mathlib.Core.List.{List}
 use Rattle.laws.proofs.RecordsInLists.{walked-at}
+use Rattle.rules.specs.Tasks.{nexuses}
 use Rattle.rules.specs.Bits.{noPending}
 use Rattle.rules.specs.Rulings.{State, pendingOf}
 use Rattle.rules.specs.Rules.{ruling, step}
@@ -22,9 +23,9 @@ use Rattle.rules.specs.Types.{Bit, Event}
 use Rattle.demands.specs.Seen.{pendingByte}
 use Rattle.demands.specs.Demands.{Reaches}
 
-pending-is : (b : List ℕ) (i : ℕ) → i < 8 → pendingOf (stateOf b) i ≡ pendingFrom (pendingByte b i)
+pending-is : (b : List ℕ) (i : ℕ) → i < nexuses → pendingOf (stateOf b) i ≡ pendingFrom (pendingByte b i)
 unfolding stateOf pendingsFrom
-pending-is b i h = walked-at nexusSize pendingIn pendingsFrom (λ n l. refl) 8 i b nexusesAt noPending h
+pending-is b i h = walked-at nexusSize pendingIn pendingsFrom (λ n l. refl) nexuses i b nexusesAt noPending h
 
 module _ (t r e : List ℕ) (v : Event) (reaches : Reaches t r e v) where
   -- what the table says after a call is what the rules say
@@ -36,7 +37,7 @@ module _ (t r e : List ℕ) (v : Event) (reaches : Reaches t r e v) where
 
   -- each bit of each nexus record after a call, by the event's cause and the bit's rank
   pub bits-seen :
-      (i : ℕ) (b : Bit) → i < 8
+      (i : ℕ) (b : Bit) → i < nexuses
       → isSet (pendingFrom (pendingByte ((outcome t r e) .table) i)) b
       ≡ bitAfter (attention (stateOf t) v i) b (isSet (pendingFrom (pendingByte t i)) b)
   bits-seen i b h =
