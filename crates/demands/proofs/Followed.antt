@@ -14,6 +14,7 @@ use Rattle.records.specs.Events.{eventOf}
 use Rattle.records.proofs.ReadBack.{state-back-again}
 use Rattle.records.proofs.GoodSays.{good-written, good-table-says}
 use Rattle.history.specs.History.{Past, begin, play, after}
+use Rattle.history.proofs.Advanced.{play-append}
 use Rattle.history.proofs.Reached.{tested-after}
 use Rattle.history.proofs.Conserve.{exactly-one, ended-grows}
 use Rattle.history.proofs.Identity.{known}
@@ -25,7 +26,7 @@ use Rattle.numbers.specs.Boundary.{startNumber}
 use Rattle.demands.specs.Calls.{Call, tableBy, heard, eventsIn, commandTask, opened}
 use Rattle.demands.specs.Seen.{presentIn, isAccepted, listedBy, ledgerBy}
 use Rattle.demands.specs.Demands.{Demand2}
-use Rattle.demands.proofs.Runs.{outcome-is, named-is, table-runs, events-append, play-append}
+use Rattle.demands.proofs.Runs.{outcome-is, named-is, table-runs, events-append}
 use Rattle.demands.proofs.Reading.{present-is}
 use Rattle.demands.proofs.Entered.{lets-one}
 use Rattle.demands.proofs.Told.{listed-run, ledger-run}

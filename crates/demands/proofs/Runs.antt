@@ -14,8 +14,8 @@ use Rattle.records.specs.Tables.{reportSize, tableBytes}
 use Rattle.records.specs.Events.{eventOf}
 use Rattle.records.proofs.ReadBack.{state-back-again}
 use Rattle.records.proofs.GoodSays.{good-written}
-use Rattle.history.specs.History.{Past, advance, play}
-use Rattle.history.proofs.Advanced.{advance-state}
+use Rattle.history.specs.History.{Past, play}
+use Rattle.history.proofs.Advanced.{advance-state, play-append}
 use Rattle.history.proofs.Reached.{tested-play}
 use Rattle.operations.proofs.Looked.{looked, no-report}
 use Rattle.operations.proofs.Names.{named-good}
@@ -48,10 +48,6 @@ named-is s w =
     ∙ ap (λ (z : State). naming Done (turn z)) (state-back-again s (w .counted) (w .eight))
 
 -- Any calls ----------------------------------------------------------------------------------------------------------------------------------
-
-pub play-append : (h : Past) (xs ys : List Event) → play h (xs ++ ys) ≡ play (play h xs) ys
-play-append h [] ys = refl
-play-append h (x ∷ xs) ys = play-append (advance h x) xs ys
 
 pub events-append : (xs ys : List Call) → eventsIn (xs ++ ys) ≡ eventsIn xs ++ eventsIn ys
 events-append [] ys = refl

@@ -21,7 +21,7 @@ use Rattle.rules.proofs.WellKept.{Tested}
 use Rattle.records.specs.Tables.{tableBytes, reportBytes}
 use Rattle.records.specs.Events.{eventOf}
 use Rattle.history.specs.History.{Past, play, isDone}
-use Rattle.history.proofs.Advanced.{advance-state, advance-log}
+use Rattle.history.proofs.Advanced.{advance-state, advance-log, play-append}
 use Rattle.history.proofs.Reached.{tested-play}
 use Rattle.operations.specs.AnswerNumbers.{writesReport}
 use Rattle.operations.specs.Operations.{Outcome}
@@ -29,7 +29,7 @@ use Rattle.rules.specs.Types.{Task, Event, Command, Completion, Management, Con
 use Rattle.records.specs.declared.events.EventRead.{EventRead, the-variants.Readable, the-variants.Unreadable}
 use Rattle.demands.specs.Calls.{Call, applied, heardIf, heard, eventsIn, commandTask, expectedOn, expectedIf, expected}
 use Rattle.demands.specs.Seen.{kindOf, eventName, namesFrom, listed, listedBy, found, strike, strikeAll, gained, ledgerBy}
-use Rattle.demands.proofs.Runs.{outcome-is, one-call, play-append}
+use Rattle.demands.proofs.Runs.{outcome-is, one-call}
 use Rattle.demands.proofs.Reading.{Reads, event-reads, report-names}
 use Rattle.demands.proofs.Counted.{done-number, fits}
 use Rattle.demands.proofs.Entered.{enters-rule}
