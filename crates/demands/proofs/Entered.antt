@@ -5,16 +5,15 @@ use mathlib.Core.Path.{_≡_, refl, ap, sym, _∙_}
 use mathlib.Core.List.{List, [], _∷_, _++_, append-nil}
 use lib.Dec.{eqb}
 use Rattle.laws.proofs.Bools.{and-true, not-both}
-use Rattle.rules.specs.Rulings.{State, newcomers, joinsOf, answerOf}
+use Rattle.rules.specs.Rulings.{State}
 use Rattle.rules.specs.Rules.{newTask, answer}
-use Rattle.rules.proofs.Ruled.{answer-ruled}
-use Rattle.rules.proofs.RulingCases.{command-cases}
 use Rattle.rules.proofs.Ends.{isCommand, only-commands-join}
 use Rattle.rules.proofs.WellKept.{Tested}
 use Rattle.records.specs.Tables.{tableBytes}
 use Rattle.records.specs.Events.{eventOf}
 use Rattle.history.specs.History.{Past, play, accepted, isDone}
 use Rattle.history.proofs.Advanced.{advance-roll}
+use Rattle.history.proofs.Accepted.{accepted-if-done}
 use Rattle.rules.specs.Types.{Task, Entry, Event, Command, Completion, Management, Condition}
 use Rattle.records.specs.declared.events.EventRead.{EventRead, the-variants.Readable, the-variants.Unreadable}
 use Rattle.demands.specs.Calls.{Call, heardIf, heard, commandTask, expectedIf, expected}
@@ -33,10 +32,7 @@ none-enters : (s : State) (e : Event) → isCommand e ≡ false → accepted s e
 none-enters s e n = only-commands-join s e n ∙ nothing false (isDone (answer s e))
 
 pub enters-rule : (s : State) (e : Event) → accepted s e ≡ cond (isDone (answer s e)) (commandTask (Readable e)) []
-enters-rule s (Command c) =
-    rw (answer-ruled s (Command c))
-    (command-cases (λ l. joinsOf l ≡ cond (isDone (answerOf l)) (newTask c ∷ []) []) s c refl (λ st se. refl) (λ st se d n. ap newcomers n)
-    refl)
+enters-rule s (Command c) = accepted-if-done s c
 enters-rule s (Completion n g f) = none-enters s (Completion n g f) refl
 enters-rule s (Management n f) = none-enters s (Management n f) refl
 enters-rule s (Condition c) = none-enters s (Condition c) refl

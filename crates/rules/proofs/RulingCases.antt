@@ -9,7 +9,7 @@ use Rattle.rules.specs.Rulings.{State}
 use Rattle.rules.specs.Rules.{accepting, clearing, manage, happen, ruleFor, ruling}
 use Rattle.rules.proofs.Cases.{enter-cases, completion-cases, other-cases}
 
--- a change is answered 0 or 7
+-- a change is answered Done or at entry
 pub ruling-cases :
     (P : Ruling → Type 0) (s : State) (e : Event) → ((a : Answer) → P (Keeps a)) → ((c : Change) → P (Changes Done c))
     → ((st : ℕ) (se : Sense) (c : Change) → P (Changes (EndedAtEntry st se) c))
