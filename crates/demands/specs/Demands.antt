@@ -1,4 +1,4 @@
--- The mission's three demands, over the bytes that the operations are lent. Document 01 stands beside this file; Moves has the words for runs, Seen
+-- The mission's three demands, over the bytes that the operations are lent. Document 01 stands beside this file; Calls has the words for runs, Seen
 -- those for what a driver sees, history/specs/History those for serial numbers, rules/specs/Refusals those for the answers 5 to 8.
 --
 --   Demand1             := every input has an answer; each number exactly where document 01 gives it; what is refused changes nothing
