@@ -82,7 +82,7 @@ $(eval $(call program,outside,tests/outside/*.c,tests/outside/*.h second/layout.
 $(eval $(call program,replay,tests/cases/*.c,tests/cases/*.h,))
 
 # One after the other, the quick ones first. The last line is that of `rt ci`: N passed, 0 failed.
-TESTS := need header crates promises install driver outside pages cases compare
+TESTS := need header crates promises opened install driver outside pages cases compare
 .PHONY: test
 test:
 	@for test in $(TESTS); do \
@@ -138,3 +138,6 @@ test-cases: build/replay $(SANITIZED:%=build/replay%)
 
 test-promises: tests/promises
 	tests/promises
+
+test-opened: tests/opened
+	tests/opened

@@ -1,2 +1,2 @@
-mod Fresh
+mod FreshTable
 pub mod Fulfilled

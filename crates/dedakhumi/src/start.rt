@@ -21,7 +21,7 @@ ghost use Rattle.rules.specs.Rulings.{fresh};
 ghost use Rattle.records.specs.Numbers.{policyFrom};
 ghost use Rattle.records.specs.Tables.{tableBytes};
 ghost use Rattle.operations.specs.Operations.{started, StartedAs};
-ghost use Rattle.dedakhumi.specs.Fresh.{freshNexuses};
+ghost use Rattle.dedakhumi.specs.FreshTable.{freshNexuses};
 
 fn write_nexuses(t: &mut [u8])
     requires { ⌜ length (now t) ≡ tableSize ⌝ }

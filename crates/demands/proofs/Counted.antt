@@ -18,12 +18,12 @@ use Rattle.records.specs.Events.{eventOf}
 use Rattle.history.specs.History.{Past, play, isDone, isTurn, turns}
 use Rattle.history.proofs.Reached.{tested-play}
 use Rattle.operations.specs.Operations.{naming}
+use Rattle.operations.proofs.Answered.{numberOf}
 use Rattle.rules.specs.Types.{Event, Command, Completion, Management, Condition, Allegiance, Clear, Faulted, Answer, Done, BadTable, BadReport, BadEvent, NexusAboveSeven, NoSuchTask, NotEnabled, EndedAtEntry, Rejected, BadPolicy, Named, Turn, Nothing, Names}
 use Rattle.records.specs.declared.events.EventRead.{EventRead, the-variants.Readable, the-variants.Unreadable}
 use Rattle.numbers.specs.Boundary.{turnFor}
 use Rattle.demands.specs.Calls.{Call, heardIf, heard, eventsIn, expectedOn, expectedIf, expected}
 use Rattle.demands.specs.Seen.{kindOf, eventName, isNamedBy, isTurnBy, turnsBy}
-use Rattle.demands.proofs.Answered.{numberOf}
 use Rattle.demands.proofs.Runs.{outcome-is, named-is, one-call}
 use Rattle.demands.proofs.Reading.{Reads, event-reads}
 

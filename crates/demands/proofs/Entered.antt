@@ -3,17 +3,18 @@ use Prim.Native.Nat.{ℕ}
 use mathlib.Core.Bool.{Bool, true, false, cond, _&&_, and-false as and-off}
 use mathlib.Core.Path.{_≡_, refl, ap, sym, _∙_}
 use mathlib.Core.List.{List, [], _∷_, _++_, append-nil}
-use lib.Dec.{eqb, ltb}
-use Rattle.laws.proofs.Bools.{and-true, not-both, cases}
-use Rattle.rules.specs.Rulings.{State, joinsOf, answerOf}
-use Rattle.rules.specs.Rules.{newTask, ruleFor, ruling, answer}
-use Rattle.rules.proofs.Cases.{enter-cases}
+use lib.Dec.{eqb}
+use Rattle.laws.proofs.Bools.{and-true, not-both}
+use Rattle.rules.specs.Rulings.{State}
+use Rattle.rules.specs.Rules.{newTask, answer}
 use Rattle.rules.proofs.Ends.{isCommand, only-commands-join}
 use Rattle.rules.proofs.WellKept.{Tested}
 use Rattle.records.specs.Tables.{tableBytes}
 use Rattle.records.specs.Events.{eventOf}
-use Rattle.history.specs.History.{Past, advance, play, accepted, isDone}
-use Rattle.rules.specs.Types.{Task, Entry, Event, Command, Completion, Management, Condition, Ruling}
+use Rattle.history.specs.History.{Past, play, accepted, isDone}
+use Rattle.history.proofs.Advanced.{advance-roll}
+use Rattle.history.proofs.Accepted.{accepted-if-done}
+use Rattle.rules.specs.Types.{Task, Entry, Event, Command, Completion, Management, Condition}
 use Rattle.records.specs.declared.events.EventRead.{EventRead, the-variants.Readable, the-variants.Unreadable}
 use Rattle.demands.specs.Calls.{Call, heardIf, heard, commandTask, expectedIf, expected}
 use Rattle.demands.specs.Seen.{kindOf, isAccepted}
@@ -21,24 +22,17 @@ use Rattle.demands.proofs.Runs.{outcome-is}
 use Rattle.demands.proofs.Counted.{done-number, fits}
 use Rattle.demands.proofs.Reading.{Reads, event-reads}
 
-abbrev pub Enters : Event → Ruling → Type 0
-Enters e l = joinsOf l ≡ cond (isDone (answerOf l)) (commandTask (Readable e)) []
-
 nothing : (b c : Bool) → _≡_ {A = List Task} (cond b [] []) (cond c [] [])
 nothing true true = refl
 nothing true false = refl
 nothing false true = refl
 nothing false false = refl
 
-none-enters : (s : State) (e : Event) → isCommand e ≡ false → joinsOf (ruling s e) ≡ cond (isDone (answerOf (ruling s e))) [] []
-none-enters s e n = only-commands-join s e n ∙ nothing false (isDone (answerOf (ruling s e)))
+none-enters : (s : State) (e : Event) → isCommand e ≡ false → accepted s e ≡ cond (isDone (answer s e)) [] []
+none-enters s e n = only-commands-join s e n ∙ nothing false (isDone (answer s e))
 
-pub enters-rule : (s : State) (e : Event) → Enters e (ruling s e)
-unfolding ruling ruleFor
-enters-rule s (Command c) =
-    cases (Enters (Command c)) (ltb (c .nexus) 8)
-    (λ l. enter-cases (Enters (Command c)) (s .header) c _ _ _ (λ se w o. refl) (λ st. refl) (λ p. refl))
-    (λ l. refl)
+pub enters-rule : (s : State) (e : Event) → accepted s e ≡ cond (isDone (answer s e)) (commandTask (Readable e)) []
+enters-rule s (Command c) = accepted-if-done s c
 enters-rule s (Completion n g f) = none-enters s (Completion n g f) refl
 enters-rule s (Management n f) = none-enters s (Management n f) refl
 enters-rule s (Condition c) = none-enters s (Condition c) refl
@@ -60,11 +54,11 @@ entering-is e (Condition c) d q = nothing d (eqb (kindOf e) 1 && d)
 lets-if :
     (h : Past) (b : Bool) (r e : List ℕ) (o : EventRead) → Reads o e
     → (play h (heardIf b o)) .roll ≡ h .roll ++ entering (kindOf e) (isDone ((expectedIf b (h .state) r o) .answer)) o
-unfolding advance answer
 lets-if h false r e o q = sym (append-nil (h .roll)) ∙ ap (λ (l : List Task). h .roll ++ l) (refused-none (kindOf e) o)
 lets-if h true r e Unreadable q = sym (append-nil (h .roll)) ∙ ap (λ (l : List Task). h .roll ++ l) (refused-none (kindOf e) Unreadable)
 lets-if h true r e (Readable v) q =
-    ap (λ (l : List Task). h .roll ++ l) (enters-rule (h .state) v ∙ entering-is e v (isDone (answerOf (ruling (h .state) v))) q)
+    advance-roll h v
+    ∙ ap (λ (l : List Task). h .roll ++ l) (enters-rule (h .state) v ∙ entering-is e v (isDone (answer (h .state) v)) q)
 
 pub lets-one :
     (h : Past) (m : Call) → Tested (h .state)
@@ -81,7 +75,6 @@ pub record Entering (h : Past) (m : Call) : Type 0 where
   pub joins : accepted (h .state) (Command command) ≡ newTask command ∷ []
 
 pub accepted-enters : (h : Past) (m : Call) → Tested (h .state) → isAccepted (tableBytes (h .state)) m ≡ true → Entering h m
-unfolding answer
 accepted-enters h m w a =
     go (fits m) (eventOf (m .event)) refl refl (event-reads (m .event) (eventOf (m .event)) refl)
     (rw (outcome-is (h .state) m w, done-number ((expected (h .state) m) .answer)) at a)

@@ -1,31 +1,26 @@
 -- Status, sense and ended count of an answer: what apply's fields are under each number.
-use Prim.Native.Nat.{ℕ, zero, suc, _+_, _-_, _*_, _≤_, _<_}
-use mathlib.Core.Bool.{true, false, cond, _&&_, _||_}
+use Prim.Native.Nat.{ℕ, zero, suc, _+_, _-_, _*_, _≤_}
 use mathlib.Core.Path.{_≡_, refl, ap, sym, _∙_}
-use mathlib.Core.List.{List, [], _∷_, _++_, map}
+use mathlib.Core.List.{List, [], _∷_, _++_}
 use mathlib.Core.Logic.{_⊎_, inl, inr}
 use native.Mathlib.Omega.{arith}
-use lib.Dec.{eqb}
-use lib.ListN.{length, getD, take, drop, replicate, length-map}
+use lib.ListN.{length, getD, drop, replicate}
 use lib.Seq.{getD-take, getD-drop}
-use borrow.Author.Tests.{eqb-true, eqb-false, eq-eqb, ne-eqb}
-use Rattle.laws.specs.Lists.{one-if}
 use Rattle.laws.specs.RecordsInLists.{joined}
-use Rattle.laws.proofs.Bools.{split, or-true}
 use Rattle.rules.specs.Tasks.{places}
-use Rattle.rules.specs.Rulings.{State, lost, fatesOf, answerOf, reportOf, taskName, endedName}
+use Rattle.rules.specs.Rulings.{State, answerOf, reportOf}
 use Rattle.rules.specs.Rules.{ruling, answer}
-use Rattle.rules.proofs.Fates.{length-split, report-names}
+use Rattle.rules.proofs.Ruled.{answer-ruled, report-short}
+use Rattle.rules.proofs.RulingCases.{ruling-cases}
 use Rattle.rules.proofs.Refusals.{sense-with-check, status-of-entry}
-use Rattle.records.specs.Records.{taskSize, marked, endedBytes}
+use Rattle.records.specs.Records.{taskSize, endedBytes}
 use Rattle.records.specs.Tables.{reportSize, reportBytes}
-use Rattle.operations.specs.AnswerNumbers.{only, said, writesReport}
+use Rattle.operations.specs.AnswerNumbers.{only, said}
 use Rattle.operations.specs.Operations.{refused, carried}
-use Rattle.rules.specs.Types.{Event, Sense, Ended, Answer, Done, BadTable, BadReport, BadEvent, NexusAboveSeven, NoSuchTask, NotEnabled, EndedAtEntry, Rejected, BadPolicy, Ruling, Keeps, Changes}
+use Rattle.operations.proofs.Answered.{numberOf, said-no-status, number-at-entry, writes-report-ended}
+use Rattle.rules.specs.Types.{Event, Ended, Answer, Done, BadTable, BadReport, BadEvent, NexusAboveSeven, NoSuchTask, NotEnabled, EndedAtEntry, Rejected, BadPolicy, Ruling, Keeps, Changes}
 use Rattle.demands.specs.Seen.{endedAmong, endedIn}
 use Rattle.demands.specs.Demands.{Fields}
-use Rattle.demands.proofs.Answered.{numberOf, AnsweredAs}
-use Rattle.demands.proofs.Runs.{writes-7}
 
 -- Ended records ------------------------------------------------------------------------------------------------------------------------------
 
@@ -49,14 +44,6 @@ report-counted : (es : List Ended) → length es ≤ 64 → endedIn (reportBytes
 unfolding reportBytes
 report-counted es l = records-counted places (reportSize - taskSize * length es) es l
 
-report-short : (s : State) (l : Ruling) → length (reportOf s l) ≤ length (s .tasks)
-report-short s l =
-    omega (
-      arith,
-      length-split (fatesOf s l) (s .tasks),
-      simp length-map at (ap length (report-names (fatesOf s l) (s .tasks))),
-    )
-
 -- The fields ---------------------------------------------------------------------------------------------------------------------------------
 
 pub refused-fields : (a : Answer) (n : ℕ) (t r : List ℕ) → said a ≡ only n → 1 ≤ n → n ≤ 6 → Fields (refused a t r)
@@ -72,33 +59,6 @@ refused-fields a n t r e low high =
     neither : (numberOf a ≡ 0) ⊎ (numberOf a ≡ 7) → ⊥
     neither (inl q) = omega (arith, ap (λ z. z .number) e)
     neither (inr q) = omega (arith, ap (λ z. z .number) e)
-
-no-status : (a : Answer) → (numberOf a ≡ 7 → ⊥) → (said a) .status ≡ 0
-no-status Done n = refl
-no-status BadTable n = refl
-no-status BadReport n = refl
-no-status BadEvent n = refl
-no-status NexusAboveSeven n = refl
-no-status NoSuchTask n = refl
-no-status NotEnabled n = refl
-no-status (EndedAtEntry st se) n = absurd (n refl)
-no-status Rejected n = refl
-no-status BadPolicy n = refl
-
--- an answer with number 7 is one at entry
-at-entry :
-    {P : Type 0} (a : Answer) → numberOf a ≡ 7
-    → ((st : ℕ) (se : Sense) → a ≡ EndedAtEntry st se → P) → P
-at-entry Done q f = absurd (omega arith)
-at-entry BadTable q f = absurd (omega arith)
-at-entry BadReport q f = absurd (omega arith)
-at-entry BadEvent q f = absurd (omega arith)
-at-entry NexusAboveSeven q f = absurd (omega arith)
-at-entry NoSuchTask q f = absurd (omega arith)
-at-entry NotEnabled q f = absurd (omega arith)
-at-entry (EndedAtEntry st se) q f = f st se refl
-at-entry Rejected q f = absurd (omega arith)
-at-entry BadPolicy q f = absurd (omega arith)
 
 module _ (s : State) (v : Event) (t r : List ℕ) (few : length (s .tasks) ≤ 64) where
   no-sense :
@@ -116,30 +76,26 @@ module _ (s : State) (v : Event) (t r : List ℕ) (few : length (s .tasks) ≤ 6
   no-sense Rejected q n = (refl, refl, refl)
   no-sense BadPolicy q n = (refl, refl, refl)
 
-  writes : (a : Answer) → (numberOf a ≡ 0) ⊎ (numberOf a ≡ 7) → writesReport a ≡ true
-  writes a (inl q) = rw q
-  writes a (inr q) = rw q
-
   counted :
       (l : Ruling) → (numberOf (answerOf l) ≡ 0) ⊎ (numberOf (answerOf l) ≡ 7)
       → length (reportOf s l) ≡ endedIn ((carried t r s l) .report)
-  counted (Keeps a) q = rw (writes a q) (sym (report-counted [] (omega arith)))
+  counted (Keeps a) q = rw (writes-report-ended a q) (sym (report-counted [] (omega arith)))
   counted (Changes a c) q =
       sym (report-counted (reportOf s (Changes a c)) (omega (arith, report-short s (Changes a c))))
 
   none-counted :
-      (l : Ruling) → AnsweredAs l → (numberOf (answerOf l) ≡ 0 → ⊥) → (numberOf (answerOf l) ≡ 7 → ⊥) → length (reportOf s l) ≡ 0
-  none-counted (Keeps a) w p q = refl
-  none-counted (Changes a c) w p q =
-      absurd (q (eqb-true (numberOf a) 7 (or-true _ (eqb (numberOf a) 7) w (ne-eqb (numberOf a) 0 p))))
+      (numberOf (answerOf (ruling s v)) ≡ 0 → ⊥) → (numberOf (answerOf (ruling s v)) ≡ 7 → ⊥) → length (reportOf s (ruling s v)) ≡ 0
+  none-counted =
+      ruling-cases (λ l. (numberOf (answerOf l) ≡ 0 → ⊥) → (numberOf (answerOf l) ≡ 7 → ⊥) → length (reportOf s l) ≡ 0) s v (λ a p q. refl)
+      (λ c p q. absurd (p refl))
+      (λ st se c p q. absurd (q refl))
 
-  pub ruled-fields : AnsweredAs (ruling s v) → Fields (carried t r s (ruling s v))
-  unfolding answer
-  ruled-fields w =
+  pub ruled-fields : Fields (carried t r s (ruling s v))
+  ruled-fields =
       record {
-        no-status = no-status (answerOf (ruling s v));
-        status = λ q. at-entry (answerOf (ruling s v)) q (λ st se e. rw e (status-of-entry s v st se e));
-        no-sense = no-sense (answerOf (ruling s v)) refl;
+        no-status = said-no-status (answerOf (ruling s v));
+        status = λ q. number-at-entry (answerOf (ruling s v)) q (λ st se e. rw e (status-of-entry s v st se (answer-ruled s v ∙ e)));
+        no-sense = no-sense (answerOf (ruling s v)) (answer-ruled s v);
         ended = counted (ruling s v);
-        none-ended = none-counted (ruling s v) w;
+        none-ended = none-counted;
       }

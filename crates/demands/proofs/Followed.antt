@@ -5,7 +5,8 @@ use mathlib.Core.Bool.{cond}
 use mathlib.Core.List.{List, [], _∷_, _++_, map, append-nil}
 use mathlib.Core.Option.{some}
 use native.Mathlib.Omega.{arith}
-use Rattle.rules.specs.Rulings.{fresh, endedName}
+use Rattle.rules.specs.Rulings.{fresh, taskName, endedName}
+use Rattle.rules.proofs.FreshSet.{fresh-tasks}
 use Rattle.rules.proofs.WellKept.{tested-fresh}
 use Rattle.records.specs.Numbers.{policyFrom}
 use Rattle.records.specs.Tables.{tableBytes}
@@ -13,18 +14,19 @@ use Rattle.records.specs.Events.{eventOf}
 use Rattle.records.proofs.ReadBack.{state-back-again}
 use Rattle.records.proofs.GoodSays.{good-written, good-table-says}
 use Rattle.history.specs.History.{Past, begin, play, after}
+use Rattle.history.proofs.Advanced.{play-append}
 use Rattle.history.proofs.Reached.{tested-after}
 use Rattle.history.proofs.Conserve.{exactly-one, ended-grows}
 use Rattle.history.proofs.Identity.{known}
 use Rattle.operations.specs.Operations.{started}
+use Rattle.operations.proofs.Answered.{numberOf}
 use Rattle.operations.proofs.Starts.{started-cases}
 use Rattle.rules.specs.Types.{Task, Event, Policy}
 use Rattle.numbers.specs.Boundary.{startNumber}
 use Rattle.demands.specs.Calls.{Call, tableBy, heard, eventsIn, commandTask, opened}
 use Rattle.demands.specs.Seen.{presentIn, isAccepted, listedBy, ledgerBy}
 use Rattle.demands.specs.Demands.{Demand2}
-use Rattle.demands.proofs.Answered.{numberOf}
-use Rattle.demands.proofs.Runs.{outcome-is, named-is, table-runs, events-append, play-append}
+use Rattle.demands.proofs.Runs.{outcome-is, named-is, table-runs, events-append}
 use Rattle.demands.proofs.Reading.{present-is}
 use Rattle.demands.proofs.Entered.{lets-one}
 use Rattle.demands.proofs.Told.{listed-run, ledger-run}
@@ -60,9 +62,10 @@ module _ (p : Policy) where
   listed-all ms = listed-run ms (begin (fresh p)) (tested-fresh p)
 
   ledger-after : (ms : List Call) → ledgerBy (opened p) ms [] ≡ some (presentIn (tableBy (opened p) ms))
-  unfolding opened fresh
+  unfolding opened
   ledger-after ms =
-      ledger-run ms (begin (fresh p)) (tested-fresh p)
+      ap (λ (l : List Task). ledgerBy (opened p) ms (map taskName l)) (sym (fresh-tasks p))
+      ∙ ledger-run ms (begin (fresh p)) (tested-fresh p)
       ∙ ap (λ l. some l)
       (sym (present-is ((after p (eventsIn ms)) .state) (tested-after p (eventsIn ms)))
       ∙ ap presentIn (sym (table-after ms)))

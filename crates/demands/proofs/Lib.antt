@@ -1,4 +1,3 @@
-pub mod Answered
 pub mod Runs
 pub mod Reading
 pub mod Counted

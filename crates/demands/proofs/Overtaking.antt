@@ -12,7 +12,7 @@ use lib.Dec.{ltb}
 use Rattle.laws.specs.Lists.{any}
 use Rattle.laws.proofs.RecordsInLists.{record-byte, walked-at}
 use Rattle.laws.proofs.Bools.{and-false, or-false, not-both, split}
-use Rattle.rules.specs.Tasks.{isPlain, same, enabledTask, enabledPlain, isNamed}
+use Rattle.rules.specs.Tasks.{nexuses, isPlain, same, enabledTask, enabledPlain, isNamed}
 use Rattle.rules.specs.Rulings.{State, turn}
 use Rattle.rules.specs.Rules.{nexusOf, answer}
 use Rattle.rules.specs.Refusals.{Waits, not-enabled}
@@ -22,7 +22,7 @@ use Rattle.rules.proofs.TurnRule.{named-completes, somebody-named}
 use Rattle.rules.proofs.Refusals.{nexus-says}
 use Rattle.records.specs.Numbers.{attributeFrom}
 use Rattle.records.specs.Records.{headSize, taskSize, taskFrom}
-use Rattle.records.specs.Tables.{countIn, tasksAt, tasksFrom, stateOf, GoodTable}
+use Rattle.records.specs.Tables.{reportSize, countIn, tasksAt, tasksFrom, stateOf, GoodTable}
 use Rattle.records.specs.Events.{eventBytes}
 use Rattle.records.proofs.GoodSays.{good-table-says}
 use Rattle.records.proofs.EventsSay.{event-bytes-back}
@@ -134,13 +134,13 @@ module _ (t : List ℕ) (good : GoodTable t) where
   turn-is : turnFor (named t) ≡ turnInNumbers Done (turn (stateOf t))
   turn-is = ap turnFor (named-good t (good-table-says t .1 good))
 
-  low-if-done : (v : Event) → answer (stateOf t) v ≡ Done → nexusOf v < 8
+  low-if-done : (v : Event) → answer (stateOf t) v ≡ Done → nexusOf v < nexuses
   low-if-done v q =
-      split (ltb (nexusOf v) 8) (λ y. ltb-true (nexusOf v) 8 y)
-      (λ y. not-both (ap isDone q) (ap isDone (nexus-says (stateOf t) v .1 (ltb-false (nexusOf v) 8 y))))
+      split (ltb (nexusOf v) nexuses) (λ y. ltb-true (nexusOf v) nexuses y)
+      (λ y. not-both (ap isDone q) (ap isDone (nexus-says (stateOf t) v .1 (ltb-false (nexusOf v) nexuses y))))
 
   done-by :
-      (r : List ℕ) (f : Finish) → length r ≡ 512 → (u : Turn) → turn (stateOf t) ≡ u → (turnInNumbers Done u) .found ≡ true
+      (r : List ℕ) (f : Finish) → length r ≡ reportSize → (u : Turn) → turn (stateOf t) ≡ u → (turnInNumbers Done u) .found ≡ true
       → number t r (eventBytes (Completion ((turnInNumbers Done u) .nexus) ((turnInNumbers Done u) .tag) f)) ≡ 0
   done-by r f l Nothing e q = not-both q refl
   done-by r f l (Names x) e q =
@@ -156,7 +156,7 @@ module _ (t : List ℕ) (good : GoodTable t) where
 
   -- whom name names can be completed, with GOOD or CHECK CONDITION: apply answers 0
   pub named-can-complete :
-      (r : List ℕ) (f : Finish) → length r ≡ 512 → (turnFor (named t)) .found ≡ true
+      (r : List ℕ) (f : Finish) → length r ≡ reportSize → (turnFor (named t)) .found ≡ true
       → number t r (eventBytes (Completion ((turnFor (named t)) .nexus) ((turnFor (named t)) .tag) f)) ≡ 0
   named-can-complete r f l =
       subst

@@ -1,12 +1,13 @@
 -- What bytes say of the event, the report and the table that they write: kinds and names.
 use Prim.Native.Nat.{ℕ, zero, suc, _/_, _%_}
-use mathlib.Core.Path.{_≡_, refl, ap, _∙_}
+use mathlib.Core.Path.{_≡_, refl, ap, sym, _∙_}
 use mathlib.Core.List.{List, [], _∷_, _++_, map}
 use native.Mathlib.Omega.{arith}
 use lib.ListN.{length, getD, drop}
 use Rattle.laws.specs.RecordsInLists.{joined}
 use Rattle.rules.specs.Rulings.{State, taskName, endedName}
 use Rattle.rules.specs.Rules.{attributeOf, newTask}
+use Rattle.rules.proofs.NewTasks.{new-task-attribute}
 use Rattle.rules.proofs.WellKept.{Tested}
 use Rattle.records.specs.Numbers.{attributeNumber}
 use Rattle.records.specs.Records.{taskSize, endedBytes}
@@ -15,7 +16,7 @@ use Rattle.records.specs.Events.{eventOf, askedNumber}
 use Rattle.records.proofs.Values.{tag-back}
 use Rattle.records.proofs.ReadBack.{state-back-again}
 use Rattle.records.proofs.EventsSay.{event-fields}
-use Rattle.rules.specs.Types.{Aca, Asked, Known, NoneOfFour, Entry, Event, Command, Completion, Management, Condition, Ended, Named}
+use Rattle.rules.specs.Types.{Aca, Asked, Known, NoneOfFour, Entry, Command, Completion, Management, Condition, Ended, Named}
 use Rattle.records.specs.declared.events.EventRead.{EventRead, the-variants.Readable, the-variants.Unreadable}
 use Rattle.demands.specs.Seen.{kindOf, eventName, namesFrom, presentIn}
 
@@ -48,8 +49,7 @@ module _ (e : List ℕ) where
 
   -- "4 ACA": only that byte lets a task in that has attribute ACA
   pub aca-asked : (c : Entry) → eventOf e ≡ Readable (Command c) → (newTask c) .attribute ≡ Aca → getD e 4 0 ≡ 4
-  unfolding newTask
-  aca-asked c q h = field 4 (event-fields e (Command c) q) ∙ go (c .asked) h
+  aca-asked c q h = field 4 (event-fields e (Command c) q) ∙ go (c .asked) (sym (new-task-attribute c) ∙ h)
     where
       go : (a : Asked) → attributeOf a ≡ Aca → askedNumber (getD e 4 0) a ≡ 4
       go (Known t) z = ap attributeNumber z

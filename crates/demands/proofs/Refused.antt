@@ -1,67 +1,38 @@
 -- The mission's demand 1: every call is answered, each number stands exactly where it applies, and what is refused changes nothing.
-use Prim.Native.Nat.{ℕ, zero, suc, _≤_, _<_}
-use mathlib.Core.Bool.{Bool, true, false, _||_}
-use mathlib.Core.Path.{_≡_, refl, ap, _∙_}
-use mathlib.Core.List.{List, []}
+use Prim.Native.Nat.{ℕ, zero, suc, _≤_}
+use mathlib.Core.Bool.{true, false}
+use mathlib.Core.Path.{_≡_, refl, ap, sym, _∙_}
+use mathlib.Core.List.{List}
 use native.Mathlib.Omega.{arith}
 use lib.Dec.{eqb}
-use lib.ListN.{length, replicate}
-use borrow.Author.Tests.{eqb-true, eqb-false, ne-eqb}
-use Rattle.laws.proofs.Bools.{split, or-true, not-both}
+use lib.ListN.{length}
+use borrow.Author.Tests.{eqb-true, eqb-false}
+use Rattle.laws.proofs.Bools.{split, not-both}
+use Rattle.rules.specs.Tasks.{nexuses}
 use Rattle.rules.specs.Rulings.{State, turn, answerOf}
 use Rattle.rules.specs.Rules.{nexusOf, ruling, answer}
 use Rattle.rules.specs.Refusals.{Absent, Waits, EndsAtEntry, RejectedBy}
-use Rattle.rules.proofs.Cases.{ruling-low}
+use Rattle.rules.proofs.Ruled.{answer-ruled}
 use Rattle.rules.proofs.Refusals.{nexus-says, absent-says, waits-says, entry-says, rejected-says, answered-by}
 use Rattle.records.specs.Numbers.{policyFits}
-use Rattle.records.specs.Tables.{stateOf, GoodTable, goodTable, reportBytes}
+use Rattle.records.specs.Tables.{tableSize, reportSize, stateOf, GoodTable, goodTable}
 use Rattle.records.specs.Events.{eventOf}
 use Rattle.records.proofs.GoodSays.{good-table-says}
 use Rattle.records.proofs.EventsSay.{bad-event-says}
 use Rattle.operations.proofs.Looked.{no-table, no-report, no-event, no-nexus, ruled-on, outcome-cases}
 use Rattle.operations.proofs.Starts.{no-room, no-policy, begun, started-cases}
 use Rattle.operations.proofs.Names.{named-bad, named-good}
-use Rattle.operations.specs.Operations.{Outcome, carried, named}
-use Rattle.rules.specs.Types.{Event, Answer, Done, BadTable, BadReport, BadEvent, NexusAboveSeven, NoSuchTask, NotEnabled, EndedAtEntry, Rejected, BadPolicy, Turn, Nothing, Names, Ruling, Keeps, Changes}
+use Rattle.operations.proofs.Answered.{numberOf}
+use Rattle.operations.proofs.Buffers.{outcome-unchanged, outcome-emptied}
+use Rattle.operations.specs.Operations.{Outcome, named}
+use Rattle.rules.specs.Types.{Event, Answer, Done, BadTable, BadReport, BadEvent, NexusAboveSeven, NoSuchTask, NotEnabled, EndedAtEntry, Rejected, BadPolicy, Turn, Nothing, Names}
 use Rattle.records.specs.declared.events.EventRead.{the-variants.Readable, the-variants.Unreadable}
 use Rattle.numbers.specs.Boundary.{turnInNumbers, turnFor, startNumber}
 use Rattle.demands.specs.Demands.{Demand1, number, nameNumber, Reaches, Fields}
-use Rattle.demands.proofs.Answered.{numberOf, AnsweredAs, rule-answers}
 use Rattle.demands.proofs.Fielded.{refused-fields, ruled-fields}
 
 not-good : (t : List ℕ) → (GoodTable t → ⊥) → goodTable t ≡ false
 not-good t n = split (goodTable t) (λ g. absurd (n (good-table-says t .0 g))) (λ g. g)
-
--- The buffers -----------------------------------------------------------------------------------------------------------------------------------
-
-not-zero : (n : ℕ) (b : Bool) → (eqb n 0 || b) ≡ true → 1 ≤ n → b ≡ true
-not-zero n b e h = or-true (eqb n 0) b e (ne-eqb n 0 (λ z. omega arith))
-
--- a change is answered 0 or 7
-changed-number : {P : Type 0} (n : ℕ) → (eqb n 0 || eqb n 7) ≡ true → 1 ≤ n → (n ≡ 7 → ⊥) → P
-changed-number n e low high = absurd (high (eqb-true n 7 (not-zero n (eqb n 7) e low)))
-
-ruling-answers : (s : State) (v : Event) → nexusOf v < 8 → AnsweredAs (ruling s v)
-ruling-answers s v low = rw (ruling-low s v low) (rule-answers s v)
-
-module _ (t r : List ℕ) where
-  abbrev Unchanged : Outcome → Type 0
-  Unchanged o = 1 ≤ numberOf (o .answer) → numberOf (o .answer) ≤ 6 → (o .table ≡ t) × (o .report ≡ r)
-
-  rule-unchanged : (s : State) (l : Ruling) → AnsweredAs l → Unchanged (carried t r s l)
-  rule-unchanged s (Keeps a) e low high = (
-    refl,
-    rw (ne-eqb (numberOf a) 0 (λ q. omega arith), ne-eqb (numberOf a) 7 (λ q. omega arith), ne-eqb (numberOf a) 8 (λ q. omega arith)),
-  )
-  rule-unchanged s (Changes a c) e low high = changed-number (numberOf a) e low (λ q. omega arith)
-
-  abbrev Emptied : Outcome → Type 0
-  Emptied o = numberOf (o .answer) ≡ 8 → (o .table ≡ t) × (o .report ≡ replicate 512 0)
-
-  rule-emptied : (s : State) (l : Ruling) → AnsweredAs l → Emptied (carried t r s l)
-  unfolding reportBytes
-  rule-emptied s (Keeps a) e q = (refl, rw q)
-  rule-emptied s (Changes a c) e q = changed-number (numberOf a) e (omega arith) (λ z. omega arith)
 
 -- The numbers -----------------------------------------------------------------------------------------------------------------------------------
 
@@ -74,9 +45,9 @@ module _ (t r e : List ℕ) where
   abbrev pub Reason : ℕ → Type 0
   Reason zero = (v : Event) × Reaches t r e v
   Reason (suc zero) = GoodTable t → ⊥
-  Reason (suc (suc zero)) = GoodTable t × (length r ≡ 512 → ⊥)
-  Reason (suc (suc (suc zero))) = GoodTable t × (length r ≡ 512) × (eventOf e ≡ Unreadable)
-  Reason (suc (suc (suc (suc zero)))) = GoodTable t × (length r ≡ 512) × ((v : Event) × (eventOf e ≡ Readable v) × (8 ≤ nexusOf v))
+  Reason (suc (suc zero)) = GoodTable t × (length r ≡ reportSize → ⊥)
+  Reason (suc (suc (suc zero))) = GoodTable t × (length r ≡ reportSize) × (eventOf e ≡ Unreadable)
+  Reason (suc (suc (suc (suc zero)))) = GoodTable t × (length r ≡ reportSize) × ((v : Event) × (eventOf e ≡ Readable v) × (nexuses ≤ nexusOf v))
   Reason (suc (suc (suc (suc (suc zero))))) = RuledBy Absent
   Reason (suc (suc (suc (suc (suc (suc zero)))))) = RuledBy Waits
   Reason (suc (suc (suc (suc (suc (suc (suc zero))))))) = RuledBy EndsAtEntry
@@ -96,11 +67,11 @@ module _ (t r e : List ℕ) where
   ruled-reason v h BadPolicy q = answered-by (stateOf t) v .3 q
 
   some-reason : Reason (number t r e)
-  unfolding answer
   some-reason =
       outcome-cases (λ o. Reason (numberOf (o .answer))) t r e (λ n. n) (λ w l. (w, l)) (λ w l u. (w, l, u))
       (λ w l v u h. (w, l, (v, u, h)))
-      (λ w l v u h. ruled-reason v (record { table = w; report = l; event = u; nexus = h }) (answer (stateOf t) v) refl)
+      (λ w l v u h. ruled-reason v (record { table = w; report = l; event = u; nexus = h }) (answerOf (ruling (stateOf t) v))
+      (answer-ruled (stateOf t) v))
 
   pub reason : (n : ℕ) → number t r e ≡ n → Reason n
   reason n q = rw q at some-reason
@@ -119,10 +90,9 @@ module _ (t r e : List ℕ) where
 
   -- what the rules answer is the number
   pub reached : (v : Event) → Reaches t r e v → (a : Answer) → answer (stateOf t) v ≡ a → number t r e ≡ numberOf a
-  unfolding answer
   reached v h a q =
       ap (λ (o : Outcome). numberOf (o .answer)) (ruled-on t r e (good-table-says t .1 (h .table)) (h .report) v (h .event))
-      ∙ ap numberOf q
+      ∙ ap numberOf (sym (answer-ruled (stateOf t) v) ∙ q)
 
 -- Start and name --------------------------------------------------------------------------------------------------------------------------------
 
@@ -150,19 +120,19 @@ module _ (t : List ℕ) where
   name-is-zero : nameNumber t ≡ 0 → GoodTable t
   name-is-zero q = good-or-bad (λ w. w) (λ n. absurd (omega (arith, ap (λ u. u .answer) (bad-named n))))
 
-start-is-zero : (t : List ℕ) (p : ℕ) → startNumber t p ≡ 0 → (length t ≡ 584) × (policyFits p ≡ true)
+start-is-zero : (t : List ℕ) (p : ℕ) → startNumber t p ≡ 0 → (length t ≡ tableSize) × (policyFits p ≡ true)
 start-is-zero t p q =
-    split (eqb (length t) 584)
+    split (eqb (length t) tableSize)
     (λ l. (
-      eqb-true (length t) 584 l,
-      split (policyFits p) (λ f. f) (λ f. absurd (omega (arith, zero-not f (eqb-true (length t) 584 l)))),
+      eqb-true (length t) tableSize l,
+      split (policyFits p) (λ f. f) (λ f. absurd (omega (arith, zero-not f (eqb-true (length t) tableSize l)))),
     ))
-    (λ l. absurd (omega (arith, one-not (eqb-false (length t) 584 l))))
+    (λ l. absurd (omega (arith, one-not (eqb-false (length t) tableSize l))))
   where
-    one-not : (length t ≡ 584 → ⊥) → startNumber t p ≡ 1
+    one-not : (length t ≡ tableSize → ⊥) → startNumber t p ≡ 1
     one-not n = rw (startNumber, no-room t p n)
 
-    zero-not : policyFits p ≡ false → length t ≡ 584 → startNumber t p ≡ 9
+    zero-not : policyFits p ≡ false → length t ≡ tableSize → startNumber t p ≡ 9
     zero-not f l = rw (startNumber, no-policy t p l f)
 
 -- The demand ------------------------------------------------------------------------------------------------------------------------------------
@@ -202,34 +172,24 @@ demand1 =
             reason t r e 8,
             λ h. reached t r e (h .0) (h .1) Rejected (rejected-says (stateOf t) (h .0) (h .1 .nexus) .1 (h .2)),
           );
-      unchanged =
-          λ t r e.
-          outcome-cases (Unchanged t r) t r e (λ n low high. (refl, refl)) (λ w l low high. (refl, refl))
-          (λ w l u low high. (refl, refl))
-          (λ w l v u h low high. (refl, refl))
-          (λ w l v u h. rule-unchanged t r (stateOf t) (ruling (stateOf t) v) (ruling-answers (stateOf t) v h));
-      emptied =
-          λ t r e.
-          outcome-cases (Emptied t r) t r e (λ n q. absurd (omega arith)) (λ w l q. absurd (omega arith))
-          (λ w l u q. absurd (omega arith))
-          (λ w l v u h q. absurd (omega arith))
-          (λ w l v u h. rule-emptied t r (stateOf t) (ruling (stateOf t) v) (ruling-answers (stateOf t) v h));
+      unchanged = outcome-unchanged;
+      emptied = outcome-emptied;
       fields =
           λ t r e.
           outcome-cases Fields t r e (λ n. refused-fields BadTable 1 t r refl (omega arith) (omega arith))
           (λ w l. refused-fields BadReport 2 t r refl (omega arith) (omega arith))
           (λ w l u. refused-fields BadEvent 3 t r refl (omega arith) (omega arith))
           (λ w l v u h. refused-fields NexusAboveSeven 4 t r refl (omega arith) (omega arith))
-          (λ w l v u h. ruled-fields (stateOf t) v t r (w .well .few) (ruling-answers (stateOf t) v h));
+          (λ w l v u h. ruled-fields (stateOf t) v t r (w .well .few));
       start-length =
           λ t p. (
-            started-cases (λ o. numberOf (o .answer) ≡ 1 → length t ≡ 584 → ⊥) t p (λ n q. n) (λ l f q. absurd (omega arith))
+            started-cases (λ o. numberOf (o .answer) ≡ 1 → length t ≡ tableSize → ⊥) t p (λ n q. n) (λ l f q. absurd (omega arith))
                 (λ q. absurd (omega arith)),
             λ n. rw (startNumber, no-room t p n),
           );
       start-policy =
           λ t p. (
-            started-cases (λ o. numberOf (o .answer) ≡ 9 → (length t ≡ 584) × (policyFits p ≡ false)) t p (λ n q. absurd (omega arith))
+            started-cases (λ o. numberOf (o .answer) ≡ 9 → (length t ≡ tableSize) × (policyFits p ≡ false)) t p (λ n q. absurd (omega arith))
                 (λ l f q. (l, f))
                 (λ q. absurd (omega arith)),
             λ h. rw (startNumber, no-policy t p (h .0) (h .1)),

@@ -3,43 +3,41 @@ use Prim.Native.Nat.{ℕ, _<_}
 use mathlib.Core.Path.{_≡_, refl, ap, sym, _∙_}
 use mathlib.Core.List.{List}
 use Rattle.laws.proofs.RecordsInLists.{walked-at}
+use Rattle.rules.specs.Tasks.{nexuses}
 use Rattle.rules.specs.Bits.{noPending}
-use Rattle.rules.specs.Rulings.{State, pendingOf, ruled}
+use Rattle.rules.specs.Rulings.{State, pendingOf}
 use Rattle.rules.specs.Rules.{ruling, step}
 use Rattle.rules.specs.Attentions.{isSet, bitAfter, attention}
-use Rattle.rules.proofs.WellKept.{Tested, tested-ruling}
+use Rattle.rules.proofs.Ruled.{step-ruled}
+use Rattle.rules.proofs.WellKept.{tested-ruling}
 use Rattle.rules.proofs.WellSays.{says-tested}
 use Rattle.rules.proofs.Attentions.{bits-after}
 use Rattle.records.specs.Numbers.{pendingFrom}
 use Rattle.records.specs.Records.{nexusSize, pendingIn}
 use Rattle.records.specs.Tables.{nexusesAt, pendingsFrom, stateOf}
-use Rattle.records.proofs.ReadBack.{state-back-again}
 use Rattle.records.proofs.GoodSays.{good-table-says}
-use Rattle.operations.specs.Operations.{Outcome, tableAfter, outcome}
+use Rattle.operations.specs.Operations.{Outcome, outcome}
 use Rattle.operations.proofs.Looked.{ruled-on}
-use Rattle.rules.specs.Types.{Bit, Event, Ruling, Keeps, Changes}
+use Rattle.operations.proofs.Carried.{table-after-says}
+use Rattle.rules.specs.Types.{Bit, Event}
 use Rattle.demands.specs.Seen.{pendingByte}
 use Rattle.demands.specs.Demands.{Reaches}
 
-read-after : (t : List ℕ) (l : Ruling) → Tested (ruled (stateOf t) l) → stateOf (tableAfter t (stateOf t) l) ≡ ruled (stateOf t) l
-read-after t (Keeps a) w = refl
-read-after t (Changes a c) w = state-back-again (ruled (stateOf t) (Changes a c)) (w .counted) (w .eight)
-
-pending-is : (b : List ℕ) (i : ℕ) → i < 8 → pendingOf (stateOf b) i ≡ pendingFrom (pendingByte b i)
+pending-is : (b : List ℕ) (i : ℕ) → i < nexuses → pendingOf (stateOf b) i ≡ pendingFrom (pendingByte b i)
 unfolding stateOf pendingsFrom
-pending-is b i h = walked-at nexusSize pendingIn pendingsFrom (λ n l. refl) 8 i b nexusesAt noPending h
+pending-is b i h = walked-at nexusSize pendingIn pendingsFrom (λ n l. refl) nexuses i b nexusesAt noPending h
 
 module _ (t r e : List ℕ) (v : Event) (reaches : Reaches t r e v) where
   -- what the table says after a call is what the rules say
   pub one-step : stateOf ((outcome t r e) .table) ≡ step (stateOf t) v
-  unfolding step
   one-step =
       ap (λ (o : Outcome). stateOf (o .table)) (ruled-on t r e (good-table-says t .1 (reaches .table)) (reaches .report) v (reaches .event))
-      ∙ read-after t (ruling (stateOf t) v) (tested-ruling (stateOf t) v (says-tested (stateOf t) (reaches .table .well)))
+      ∙ table-after-says t (ruling (stateOf t) v) (tested-ruling (stateOf t) v (says-tested (stateOf t) (reaches .table .well)))
+      ∙ sym (step-ruled (stateOf t) v)
 
   -- each bit of each nexus record after a call, by the event's cause and the bit's rank
   pub bits-seen :
-      (i : ℕ) (b : Bit) → i < 8
+      (i : ℕ) (b : Bit) → i < nexuses
       → isSet (pendingFrom (pendingByte ((outcome t r e) .table) i)) b
       ≡ bitAfter (attention (stateOf t) v i) b (isSet (pendingFrom (pendingByte t i)) b)
   bits-seen i b h =

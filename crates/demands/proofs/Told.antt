@@ -4,30 +4,32 @@ use mathlib.Core.Bool.{Bool, true, false, cond, _&&_, not, and-false as and-off}
 use mathlib.Core.Path.{_≡_, refl, ap, sym, _∙_}
 use mathlib.Core.List.{List, [], _∷_, _++_, map, append-assoc, append-nil, map-append}
 use mathlib.Core.Option.{Option, none, some}
-use lib.Dec.{eqb, ltb}
+use lib.Dec.{eqb}
 use lib.ListN.{length}
 use borrow.Author.Tests.{eq-eqb, not-true}
 use Rattle.laws.specs.Lists.{any}
-use Rattle.laws.proofs.Bools.{and-true, or-false, none-some, cases}
+use Rattle.laws.proofs.Bools.{and-true, or-false, none-some}
 use Rattle.rules.specs.Tasks.{same}
-use Rattle.rules.specs.Rulings.{State, kept, lost, fatesOf, joinsOf, ruled, answerOf, reportOf, taskName, endedName, sameName}
-use Rattle.rules.specs.Rules.{newTask, nexusOf, ruleFor, ruling, answer, report}
+use Rattle.rules.specs.Rulings.{State, kept, lost, fatesOf, answerOf, reportOf, taskName, endedName, sameName}
+use Rattle.rules.specs.Rules.{newTask, ruling, answer, report}
 use Rattle.rules.specs.Well.{distinct}
 use Rattle.rules.proofs.Fates.{any-lost, report-names as lost-names}
-use Rattle.rules.proofs.Distinct.{map-restate}
+use Rattle.rules.proofs.Ruled.{step-ruled, answer-ruled, report-ruled, ruled-names}
+use Rattle.rules.proofs.RulingCases.{ruling-cases}
+use Rattle.rules.proofs.NewTasks.{new-task-name}
 use Rattle.rules.proofs.WellKept.{Tested}
 use Rattle.records.specs.Tables.{tableBytes, reportBytes}
 use Rattle.records.specs.Events.{eventOf}
-use Rattle.history.specs.History.{Past, advance, play, isDone}
+use Rattle.history.specs.History.{Past, play, isDone}
+use Rattle.history.proofs.Advanced.{advance-state, advance-log, play-append}
 use Rattle.history.proofs.Reached.{tested-play}
 use Rattle.operations.specs.AnswerNumbers.{writesReport}
 use Rattle.operations.specs.Operations.{Outcome}
-use Rattle.rules.specs.Types.{Task, Event, Command, Completion, Management, Condition, Fate, Stays, Ends, Ended, Named, Ruling, Keeps, Changes}
+use Rattle.rules.specs.Types.{Task, Event, Command, Completion, Management, Condition, Fate, Stays, Ends, Named, Done, EndedAtEntry, Ruling, Changes}
 use Rattle.records.specs.declared.events.EventRead.{EventRead, the-variants.Readable, the-variants.Unreadable}
 use Rattle.demands.specs.Calls.{Call, applied, heardIf, heard, eventsIn, commandTask, expectedOn, expectedIf, expected}
 use Rattle.demands.specs.Seen.{kindOf, eventName, namesFrom, listed, listedBy, found, strike, strikeAll, gained, ledgerBy}
-use Rattle.demands.proofs.Answered.{AnsweredAs, rule-answers}
-use Rattle.demands.proofs.Runs.{writes-7, outcome-is, one-call, play-append}
+use Rattle.demands.proofs.Runs.{outcome-is, one-call}
 use Rattle.demands.proofs.Reading.{Reads, event-reads, report-names}
 use Rattle.demands.proofs.Counted.{done-number, fits}
 use Rattle.demands.proofs.Entered.{enters-rule}
@@ -38,31 +40,27 @@ abbrev namesOf : Outcome → List Named
 namesOf o = namesFrom (o .ended) (o .report)
 
 -- where the report is not written no task ended
-silent :
-    (s : State) (r : List ℕ) (l : Ruling) → AnsweredAs l
-    → namesFrom (length (reportOf s l)) (cond (writesReport (answerOf l)) (reportBytes (reportOf s l)) r) ≡ map endedName (reportOf s l)
-silent s r (Keeps a) e = refl
-silent s r (Changes a c) e = rw (writes-7 a e) (report-names (reportOf s (Changes a c)))
-
 names-on : (s : State) (r : List ℕ) (e : Event) → namesOf (expectedOn s r (Readable e)) ≡ map endedName (report s e)
-unfolding report answer ruling
 names-on s r e =
-    cases
+    rw (answer-ruled s e, report-ruled s e)
+    (ruling-cases
     (λ l.
     namesFrom (length (reportOf s l)) (cond (writesReport (answerOf l)) (reportBytes (reportOf s l)) r) ≡ map endedName (reportOf s l))
-    (ltb (nexusOf e) 8)
-    (λ h. silent s r (ruleFor s e) (rule-answers s e))
-    (λ h. refl)
+    s
+    e
+    (λ a. refl)
+    (λ c. report-names (reportOf s (Changes Done c)))
+    (λ st se c. report-names (reportOf s (Changes (EndedAtEntry st se) c))))
 
 log-step :
     (h : Past) (b : Bool) (r : List ℕ) (o : EventRead)
     → map endedName (h .log) ++ namesOf (expectedIf b (h .state) r o) ≡ map endedName ((play h (heardIf b o)) .log)
-unfolding advance report
 log-step h false r o = append-nil (map endedName (h .log))
 log-step h true r Unreadable = append-nil (map endedName (h .log))
 log-step h true r (Readable e) =
     ap (λ (l : List Named). map endedName (h .log) ++ l) (names-on (h .state) r e)
-    ∙ sym (map-append endedName (h .log) (reportOf (h .state) (ruling (h .state) e)))
+    ∙ sym (map-append endedName (h .log) (report (h .state) e))
+    ∙ ap (map endedName) (sym (advance-log h e))
 
 listed-is : (s : State) (m : Call) → Tested s → listed (tableBytes s) m ≡ namesOf (expected s m)
 listed-is s m w = ap namesOf (outcome-is s m w)
@@ -122,13 +120,6 @@ strike-lost (Ends st ∷ fs) (t ∷ ts) d =
 
 -- The ledger ---------------------------------------------------------------------------------------------------------------------------------
 
-names-after :
-    (s : State) (l : Ruling) → map taskName ((ruled s l) .tasks) ≡ map taskName (kept (fatesOf s l) (s .tasks)) ++ map taskName (joinsOf l)
-names-after s (Keeps a) = sym (append-nil (map taskName (s .tasks)))
-names-after s (Changes a c) =
-    map-restate taskName (λ t st. refl) (s .header .aca) (c .header .aca) _
-    ∙ map-append taskName (kept (fatesOf s (Changes a c)) (s .tasks)) (joinsOf (Changes a c))
-
 struck-by :
     (s : State) (l : Ruling) → distinct (s .tasks) ≡ true
     → strikeAll (map endedName (reportOf s l)) (map taskName (s .tasks)) ≡ some (map taskName (kept (fatesOf s l) (s .tasks)))
@@ -150,10 +141,9 @@ kept-as-is h e = rw (and-off (eqb (kindOf e) 1), append-nil (map taskName (h .st
 gained-is :
     (e : List ℕ) (v : Event) (d : Bool) → Reads (Readable v) e
     → cond (eqb (kindOf e) 1 && d) (eventName e ∷ []) [] ≡ map taskName (cond d (commandTask (Readable v)) [])
-unfolding newTask
 gained-is e (Command c) d q =
     ap (λ (k : ℕ). cond (eqb k 1 && d) (eventName e ∷ []) []) (q .0)
-    ∙ ap (λ (x : Named). cond d (x ∷ []) []) (q .1)
+    ∙ ap (λ (x : Named). cond d (x ∷ []) []) (q .1 ∙ sym (new-task-name c))
     ∙ go d
   where
     go : (d : Bool) → cond d (taskName (newTask c) ∷ []) [] ≡ map taskName (cond d (newTask c ∷ []) [])
@@ -168,18 +158,18 @@ one-call-if :
     → found (strikeAll (namesOf (expectedIf b (h .state) r o)) (map taskName (h .state .tasks)))
     (λ k. some (k ++ cond (eqb (kindOf e) 1 && isDone ((expectedIf b (h .state) r o) .answer)) (eventName e ∷ []) []))
     ≡ some (map taskName ((play h (heardIf b o)) .state .tasks))
-unfolding advance report answer
 one-call-if h false r e o w q = kept-as-is h e
 one-call-if h true r e Unreadable w q = kept-as-is h e
 one-call-if h true r e (Readable v) w q =
     let s = h .state in
     let l = ruling s v in
-    let grows : List Named → List Named = λ k. k ++ cond (eqb (kindOf e) 1 && isDone (answerOf l)) (eventName e ∷ []) [] in
-    ap (λ (ks : List Named). found (strikeAll ks (map taskName (s .tasks))) (λ k. some (grows k))) (names-on s r v)
+    let grows : List Named → List Named = λ k. k ++ cond (eqb (kindOf e) 1 && isDone (answer s v)) (eventName e ∷ []) [] in
+    ap (λ (ks : List Named). found (strikeAll ks (map taskName (s .tasks))) (λ k. some (grows k))) (names-on s r v ∙ ap (map endedName) (report-ruled s v))
     ∙ ap (λ (x : Option (List Named)). found x (λ k. some (grows k))) (struck-by s l (w .apart))
     ∙ ap (λ (x : List Named). some (map taskName (kept (fatesOf s l) (s .tasks)) ++ x))
-    (gained-is e v (isDone (answerOf l)) q ∙ ap (map taskName) (sym (enters-rule s v)))
-    ∙ ap {B = Option (List Named)} some (sym (names-after s l))
+    (gained-is e v (isDone (answer s v)) q ∙ ap (map taskName) (sym (enters-rule s v)))
+    ∙ ap {B = Option (List Named)} some (sym (ruled-names s l))
+    ∙ ap (λ (z : State). some (map taskName (z .tasks))) (sym (advance-state h v ∙ step-ruled s v))
 
 found-then :
     {A B C : Type 0} (o : Option A) (f : A → B) (g : B → Option C) (b : B) → found o (λ a. some (f a)) ≡ some b

@@ -26,7 +26,7 @@ apply-unique t r e a b u v q s x y =
 pub name-unique : (t : List ℕ) (a b : NamedTurn) → NamesAs t a → NamesAs t b → a ≡ b
 name-unique t a b x y = joint (x .turn) (y .turn)
 
--- The operations of crate table --------------------------------------------------------------------------------------------------------------
+-- Inside the library -------------------------------------------------------------------------------------------------------------------------
 
 pub applied-unique :
     (o : Outcome) (a b : Applied) (t u r q : List ℕ) → AppliedAs o a t r → AppliedAs o b u q → (a ≡ b) × (t ≡ u) × (r ≡ q)

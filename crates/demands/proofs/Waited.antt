@@ -1,6 +1,6 @@
 -- The mission's demand 3: the waiting bound by what the operations answer.
-use Prim.Native.Nat.{ℕ, _≤_}
-use mathlib.Core.Path.{_≡_, refl, ap, _∙_}
+use Prim.Native.Nat.{_≤_}
+use mathlib.Core.Path.{_≡_, ap, sym, _∙_}
 use mathlib.Core.Bool.{true}
 use mathlib.Core.List.{List, [], _∷_, _++_, map}
 use native.Mathlib.Omega.{arith}
@@ -8,6 +8,7 @@ use lib.ListN.{length, getD}
 use Rattle.laws.specs.Lists.{any}
 use Rattle.rules.specs.Rulings.{taskName, endedName, sameName}
 use Rattle.rules.specs.Rules.{newTask}
+use Rattle.rules.proofs.NewTasks.{new-task-name}
 use Rattle.records.specs.Numbers.{policyFrom}
 use Rattle.records.specs.Tables.{countIn}
 use Rattle.records.proofs.ReadBack.{written-count}
@@ -44,8 +45,7 @@ module _ (p : Policy) (ms : List Call) where
   after-one m e q = after-append p ms (m ∷ []) ∙ ap (λ (l : List Event). play (after p (eventsIn ms)) (l ++ [])) q
 
 new-name : (m : Call) (h : Past) (x : Entering h m) → eventName (m .event) ≡ taskName (newTask (x .command))
-unfolding newTask
-new-name m h x = event-reads (m .event) (Readable (Command (x .command))) (x .read) .1
+new-name m h x = event-reads (m .event) (Readable (Command (x .command))) (x .read) .1 ∙ sym (new-task-name (x .command))
 
 waited :
     (p : Policy) (ms : List Call) (m : Call) (later : List Call) → isAccepted (tableBy (opened p) ms) m ≡ true

@@ -10,7 +10,7 @@ use Rattle.rules.specs.Rulings.{fresh}
 use Rattle.rules.specs.Rules.{newTask, enter, complete, ruleFor, ruling}
 use Rattle.rules.specs.Well.{wellFormed}
 use Rattle.records.specs.Events.{eventFrom, eventOf}
-use Rattle.records.specs.Tables.{countIn, tasksFrom, pendingsFrom, stateOf, nexusRecords, unusedRecords, tableWith, tableBytes, reportBytes, nexusesFit, tasksFit, unusedFit, goodTable}
+use Rattle.records.specs.Tables.{tableSize, reportSize, countIn, tasksFrom, pendingsFrom, stateOf, nexusRecords, unusedRecords, tableWith, tableBytes, reportBytes, nexusesFit, tasksFit, unusedFit, goodTable}
 use Rattle.operations.specs.Operations.{outcome, named, started}
 use Rattle.numbers.specs.Boundary.{startNumber}
 use Rattle.demands.specs.Calls.{Call, applied, tableBy}
@@ -18,17 +18,17 @@ use Rattle.demands.specs.Seen.{eventName, presentIn, isAccepted, listedB
 
 -- a COMMAND of nexus n with tag g, attribute a, exempt; a COMPLETION with GOOD; a piece that is too short to be an event
 abbrev command : ℕ → ℕ → ℕ → Call
-command n g a = record { event = 0x54 ∷ 0x56 ∷ 1 ∷ n ∷ a ∷ 2 ∷ 0 ∷ g ∷ []; report = replicate 512 0xEE }
+command n g a = record { event = 0x54 ∷ 0x56 ∷ 1 ∷ n ∷ a ∷ 2 ∷ 0 ∷ g ∷ []; report = replicate reportSize 0xEE }
 
 abbrev completion : ℕ → ℕ → Call
-completion n g = record { event = 0x54 ∷ 0x56 ∷ 2 ∷ n ∷ 0 ∷ 0 ∷ 0 ∷ g ∷ []; report = replicate 512 0xEE }
+completion n g = record { event = 0x54 ∷ 0x56 ∷ 2 ∷ n ∷ 0 ∷ 0 ∷ 0 ∷ g ∷ []; report = replicate reportSize 0xEE }
 
 abbrev short : Call
 short = record { event = 0x54 ∷ 0x56 ∷ []; report = [] }
 
 -- a buffer that start is lent, whatever stands in it
 abbrev lent : List ℕ
-lent = replicate 584 0xEE
+lent = replicate tableSize 0xEE
 
 abbrev table : List ℕ
 table = (started lent 0) .table

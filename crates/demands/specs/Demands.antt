@@ -1,4 +1,4 @@
--- The mission's three demands, over the bytes that the operations are lent. Document 01 stands beside this file; Moves has the words for runs, Seen
+-- The mission's three demands, over the bytes that the operations are lent. Document 01 stands beside this file; Calls has the words for runs, Seen
 -- those for what a driver sees, history/specs/History those for serial numbers, rules/specs/Refusals those for the answers 5 to 8.
 --
 --   Demand1             := every input has an answer; each number exactly where document 01 gives it; what is refused changes nothing
@@ -13,11 +13,12 @@ use mathlib.Core.List.{List, [], _∷_, _++_, map}
 use mathlib.Core.Logic.{_↔_, _⊎_}
 use mathlib.Core.Option.{some}
 use lib.ListN.{length, getD, replicate}
+use Rattle.rules.specs.Tasks.{nexuses}
 use Rattle.rules.specs.Rulings.{turn, taskName}
 use Rattle.rules.specs.Rules.{nexusOf}
 use Rattle.rules.specs.Refusals.{Absent, Waits, EndsAtEntry, EntryStatus, RejectedBy}
 use Rattle.records.specs.Numbers.{policyFits, policyFrom}
-use Rattle.records.specs.Tables.{Bytes, countIn, GoodTable, stateOf, tableBytes}
+use Rattle.records.specs.Tables.{Bytes, tableSize, reportSize, countIn, GoodTable, stateOf, tableBytes}
 use Rattle.records.specs.Events.{eventOf, IsEvent}
 use Rattle.history.specs.History.{after, look, unstated, inTable, hasEnded}
 use Rattle.operations.specs.Operations.{Outcome, outcome, naming, named, started}
@@ -38,9 +39,9 @@ nameNumber t = (turnFor (named t)) .answer
 -- none of 1 to 4 applies, and the event is v
 pub record Reaches (t r e : List ℕ) (v : Event) : Type 0 where
   pub table : GoodTable t
-  pub report : length r ≡ 512
+  pub report : length r ≡ reportSize
   pub event : eventOf e ≡ Readable v
-  pub nexus : nexusOf v < 8
+  pub nexus : nexusOf v < nexuses
 
 -- "Status is 0 except under 7, and sense (key, code, qualifier) is 0 except under 7 with status 02h. The ended count is the number of ended records in
 -- the report, and 0 under every answer but 0 and 7."
@@ -58,11 +59,11 @@ pub record Demand1 : Type 0 where
   -- apply answers one of 0 to 8: each of 1 to 8 exactly where it applies, and so 0 exactly where none of them does
   pub some-answer : (t r e : List ℕ) → number t r e ≤ 8
   pub bad-table : (t r e : List ℕ) → (number t r e ≡ 1) ↔ (GoodTable t → ⊥)
-  pub bad-report : (t r e : List ℕ) → (number t r e ≡ 2) ↔ (GoodTable t × (length r ≡ 512 → ⊥))
-  pub bad-event : (t r e : List ℕ) → (number t r e ≡ 3) ↔ (GoodTable t × (length r ≡ 512) × (eventOf e ≡ Unreadable))
+  pub bad-report : (t r e : List ℕ) → (number t r e ≡ 2) ↔ (GoodTable t × (length r ≡ reportSize → ⊥))
+  pub bad-event : (t r e : List ℕ) → (number t r e ≡ 3) ↔ (GoodTable t × (length r ≡ reportSize) × (eventOf e ≡ Unreadable))
   pub no-event : (e : List ℕ) → Bytes e → (eventOf e ≡ Unreadable) ↔ (IsEvent e → ⊥)
   pub bad-nexus : (t r e : List ℕ)
-      → (number t r e ≡ 4) ↔ (GoodTable t × (length r ≡ 512) × ((v : Event) × (eventOf e ≡ Readable v) × (8 ≤ nexusOf v)))
+      → (number t r e ≡ 4) ↔ (GoodTable t × (length r ≡ reportSize) × ((v : Event) × (eventOf e ≡ Readable v) × (nexuses ≤ nexusOf v)))
   pub no-such-task : (t r e : List ℕ) → (number t r e ≡ 5) ↔ ((v : Event) × Reaches t r e v × Absent (stateOf t) v)
   pub not-enabled : (t r e : List ℕ) → (number t r e ≡ 6) ↔ ((v : Event) × Reaches t r e v × Waits (stateOf t) v)
   pub at-entry : (t r e : List ℕ) → (number t r e ≡ 7) ↔ ((v : Event) × Reaches t r e v × EndsAtEntry (stateOf t) v)
@@ -71,12 +72,12 @@ pub record Demand1 : Type 0 where
   pub unchanged : (t r e : List ℕ) → 1 ≤ number t r e → number t r e ≤ 6
       → ((outcome t r e) .table ≡ t) × ((outcome t r e) .report ≡ r)
   pub emptied : (t r e : List ℕ) → number t r e ≡ 8
-      → ((outcome t r e) .table ≡ t) × ((outcome t r e) .report ≡ replicate 512 0)
+      → ((outcome t r e) .table ≡ t) × ((outcome t r e) .report ≡ replicate reportSize 0)
   pub fields : (t r e : List ℕ) → Fields (outcome t r e)
   -- start looks at length and policy
-  pub start-length : (t : List ℕ) (p : ℕ) → (startNumber t p ≡ 1) ↔ (length t ≡ 584 → ⊥)
-  pub start-policy : (t : List ℕ) (p : ℕ) → (startNumber t p ≡ 9) ↔ ((length t ≡ 584) × (policyFits p ≡ false))
-  pub start-done : (t : List ℕ) (p : ℕ) → (startNumber t p ≡ 0) ↔ ((length t ≡ 584) × (policyFits p ≡ true))
+  pub start-length : (t : List ℕ) (p : ℕ) → (startNumber t p ≡ 1) ↔ (length t ≡ tableSize → ⊥)
+  pub start-policy : (t : List ℕ) (p : ℕ) → (startNumber t p ≡ 9) ↔ ((length t ≡ tableSize) × (policyFits p ≡ false))
+  pub start-done : (t : List ℕ) (p : ℕ) → (startNumber t p ≡ 0) ↔ ((length t ≡ tableSize) × (policyFits p ≡ true))
   pub start-unchanged : (t : List ℕ) (p : ℕ) → 1 ≤ startNumber t p → (started t p) .table ≡ t
   -- name looks at the table; nexus and tag are 0 where it names nothing, and so under 1
   pub name-table : (t : List ℕ) → (nameNumber t ≡ 1) ↔ (GoodTable t → ⊥)

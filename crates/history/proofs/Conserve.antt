@@ -13,6 +13,7 @@ use Rattle.laws.proofs.Lists.{count-append}
 use Rattle.rules.specs.Types.{Task, Event, Policy, Fate, Ruling, Keeps, Changes}
 use Rattle.rules.specs.Rulings.{fresh, kept, lost, fateOf, newcomers, fatesOf}
 use Rattle.rules.specs.Rules.{ruling}
+use Rattle.rules.proofs.FreshSet.{fresh-tasks}
 use Rattle.rules.proofs.Fates.{count-split, length-kept, length-split}
 use Rattle.rules.proofs.Distinct.{length-restate}
 use Rattle.history.specs.History.{Past, begin, serialsFrom, advanceBy, advance, play, after, inTable, hasEnded}
@@ -62,8 +63,7 @@ conserved-play h [] i = i
 conserved-play h (e ∷ es) i = conserved-play (advance h e) es (conserved-advance h e i)
 
 conserved-fresh : (p : Policy) → Conserved (begin (fresh p))
-unfolding fresh
-conserved-fresh p = record { aligned = refl; once = λ k. rw (le-ltb k 0 (omega arith)) refl }
+conserved-fresh p = record { aligned = ap length (sym (fresh-tasks p)); once = λ k. rw (le-ltb k 0 (omega arith)) refl }
 
 pub conserved : (p : Policy) (es : List Event) → Conserved (after p es)
 conserved p es = conserved-play (begin (fresh p)) es (conserved-fresh p)

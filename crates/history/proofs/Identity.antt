@@ -14,6 +14,7 @@ use Rattle.laws.proofs.Lists.{any-append, any-less}
 use Rattle.rules.specs.Types.{Task, Event, Policy, Fate, Ruling, Keeps, Changes}
 use Rattle.rules.specs.Rulings.{fresh, kept, lost, fateOf, newcomers, endedFrom, taskName, endedName}
 use Rattle.rules.specs.Rules.{ruling}
+use Rattle.rules.proofs.FreshSet.{fresh-tasks}
 use Rattle.rules.proofs.Fates.{any-kept, any-lost, map-kept, map-lost, report-names}
 use Rattle.rules.proofs.Distinct.{map-restate}
 use Rattle.history.specs.History.{Past, begin, serialsFrom, advanceBy, advance, play, after, nobody, look, unstated}
@@ -140,6 +141,5 @@ known-play h (e ∷ es) i = known-play (advance h e) es (known-by h (ruling (h .
 
 -- after any sequence of events from a fresh table
 pub known : (p : Policy) (es : List Event) → Known (after p es)
-unfolding fresh
 known p es =
-    known-play (begin (fresh p)) es (record { present-below = refl; ended-below = refl; table = refl; reports = refl })
+    known-play (begin (fresh p)) es (record { present-below = refl; ended-below = refl; table = rw (fresh-tasks p); reports = refl })

@@ -1,3 +1,5 @@
+pub mod Advanced
+pub mod Accepted
 pub mod Reached
 pub mod Conserve
 pub mod Identity

@@ -14,9 +14,10 @@ use Rattle.rules.specs.Types.{Attribute, Simple, HeadOfQueue, Ordered, Aca, Tas
 use Rattle.values.specs.Headers.{runAfter}
 use Rattle.rules.specs.Tasks.{isHead, enabledHead}
 use Rattle.rules.specs.Rulings.{State, kept, fateOf, joinsOf, answerOf, ruled}
-use Rattle.rules.specs.Rules.{ruling, answer}
+use Rattle.rules.specs.Rules.{ruling}
 use Rattle.rules.specs.Well.{settled}
 use Rattle.rules.proofs.Fates.{isEnds, count-kept-le, count-falls}
+use Rattle.rules.proofs.Ruled.{answer-ruled}
 use Rattle.rules.proofs.Settled.{headTask}
 use Rattle.rules.proofs.TurnRule.{otherTask, turn-cases}
 use Rattle.rules.proofs.WellKept.{Tested}
@@ -156,12 +157,13 @@ after-event :
     (isTurn (h .state) e)
     → P)
     → P
-unfolding advance answer
+unfolding advance
 after-event h e k t pre w p gone stays =
     place-by h (ruling (h .state) e) k t pre p (λ n d. gone d)
     (λ n o.
     stays (o .self) (o .before) (o .place) (o .attribute)
-    (falls-by (h .state) e (ruling (h .state) e) k t (h .present) pre (o .before) w (effect (h .state) e w) p n (o .same)))
+    (rw (answer-ruled (h .state) e)
+    (falls-by (h .state) e (ruling (h .state) e) k t (h .present) pre (o .before) w (effect (h .state) e w) p n (o .same))))
 
 -- Any events -------------------------------------------------------------------------------------------------------------------------------
 

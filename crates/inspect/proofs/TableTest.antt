@@ -7,13 +7,14 @@ use native.Mathlib.Omega.{arith}
 use lib.Dec.{eqb, leb}
 use lib.ListN.{length, getD, take, drop}
 use lib.Seq.{getD-drop, getD-take}
-use borrow.Author.Tests.{eqb-true, eqb-false, eq-eqb, ne-eqb, lt-ltb, le-leb, lt-leb, leb-false}
+use borrow.Author.Tests.{eqb-true, eqb-false, eq-eqb, ne-eqb, lt-ltb, lt-leb, leb-false}
 use Rattle.laws.specs.Lists.{any, isNil}
 use Rattle.laws.specs.RecordsInLists.{recordAt}
 use Rattle.laws.proofs.Bools.{and-true, or-false, split}
 use Rattle.octets.specs.Sizes.{headSize, taskSize, tasksAt, tableSize, nexusesAt, countOffset, acaOffset, runOffset, nexusOffset}
 use Rattle.rules.specs.Tasks.{places, nexuses, same}
 use Rattle.rules.specs.Well.{statesFit, faultFits, distinct, tooHigh, wellFormed}
+use Rattle.rules.proofs.WellParts.{well-formed-parts}
 use Rattle.records.specs.Numbers.{tagIn, acaFrom}
 use Rattle.records.specs.Records.{headerFrom, headerFits, taskFrom, taskFits}
 use Rattle.records.specs.Tables.{countIn, Bytes, tasksFrom, stateOf, nexusesFit, tasksFit, unusedFit, goodTable}
@@ -129,21 +130,18 @@ well-is :
     → wellFormed (stateOf b)
     ≡ distinct (tasksFrom (countIn b) (drop tasksAt b))
     && statesFit ((headerFrom (recordAt headSize b 0)) .aca) (tasksFrom (countIn b) (drop tasksAt b))
-unfolding wellFormed stateOf
+unfolding stateOf
 well-is b long h t =
     let n = countIn b in
-    let ts = tasksFrom n (drop tasksAt b) in
     let f = header-good b (omega arith) h in
     let byte : (i : ℕ) → i < headSize → getD (recordAt headSize b 0) i 0 ≡ getD b i 0 = λ i l. getD-take headSize b i 0 l in
-    let few : leb (length ts) 64 ≡ true = le-leb (length ts) 64 (omega (arith, f .1, length-tasks-from n (drop tasksAt b))) in
-    let counted : eqb (getD (recordAt headSize b 0) countOffset 0) (length ts) ≡ true =
-    eq-eqb (getD (recordAt headSize b 0) countOffset 0) (length ts) (byte countOffset (omega arith) ∙ sym (length-tasks-from n (drop tasksAt b)))
-    in
-    let run : leb (getD (recordAt headSize b 0) runOffset 0) 4 ≡ true = le-leb (getD (recordAt headSize b 0) runOffset 0) 4 (omega (arith, f .3, byte runOffset (omega arith))) in
-    let fault : faultFits (acaFrom (getD (recordAt headSize b 0) acaOffset 0)) ≡ true =
-    aca-fits (getD (recordAt headSize b 0) acaOffset 0) (omega (arith, f .2, byte acaOffset (omega arith)))
-    in
-    rw (run, few, counted, length-pendings-from nexuses (drop nexusesAt b), fault, nexuses-low n (drop tasksAt b) t)
+    well-formed-parts (stateOf b)
+    (omega (arith, f .3, byte runOffset (omega arith)))
+    (omega (arith, f .1, length-tasks-from n (drop tasksAt b)))
+    (byte countOffset (omega arith) ∙ sym (length-tasks-from n (drop tasksAt b)))
+    (length-pendings-from nexuses (drop nexusesAt b))
+    (aca-fits (getD (recordAt headSize b 0) acaOffset 0) (omega (arith, f .2, byte acaOffset (omega arith))))
+    (nexuses-low n (drop tasksAt b) t)
 
 -- code's order is the paper's
 pub table-test-is : (b : List ℕ) → Bytes b → tableTest b ≡ goodTable b

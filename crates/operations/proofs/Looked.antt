@@ -7,10 +7,11 @@ use lib.ListN.{length, replicate}
 use lib.Dec.{eqb, ltb}
 use borrow.Author.Tests.{eqb-true, eqb-false, eq-eqb, ne-eqb, ltb-true, ltb-false}
 use Rattle.laws.proofs.Bools.{cases, split, not-both}
+use Rattle.rules.specs.Tasks.{nexuses}
 use Rattle.rules.specs.Rulings.{State}
 use Rattle.rules.specs.Rules.{nexusOf, ruling}
 use Rattle.rules.proofs.Cases.{ruling-high}
-use Rattle.records.specs.Tables.{stateOf, GoodTable, reportBytes, goodTable}
+use Rattle.records.specs.Tables.{reportSize, stateOf, GoodTable, reportBytes, goodTable}
 use Rattle.records.specs.Events.{eventOf}
 use Rattle.records.proofs.GoodSays.{good-table-says}
 use Rattle.rules.specs.Types.{Event, Answer, BadTable, BadReport, BadEvent, NexusAboveSeven, Rejected, Keeps}
@@ -23,7 +24,7 @@ pub refused-as : {o : Outcome} {a : Answer} (x : Applied) (t r : List ℕ) → o
 refused-as x t r e f = rw e (record { answer = f .0; ended = f .1; table = refl; report = refl })
 
 pub zeroed :
-    (a : Answer) (r : List ℕ) → length r ≡ 512 → cond (writesReport a) (replicate (length r) 0) r ≡ cond (writesReport a) (reportBytes []) r
+    (a : Answer) (r : List ℕ) → length r ≡ reportSize → cond (writesReport a) (replicate (length r) 0) r ≡ cond (writesReport a) (reportBytes []) r
 unfolding reportBytes
 zeroed a r l = ap (λ (n : ℕ). cond (writesReport a) (replicate n 0) r) l
 
@@ -36,14 +37,14 @@ module _ (t r e : List ℕ) where
   unfolding outcome
   no-table h = rw h
 
-  pub no-report : goodTable t ≡ true → (length r ≡ 512 → ⊥) → outcome t r e ≡ refused BadReport t r
+  pub no-report : goodTable t ≡ true → (length r ≡ reportSize → ⊥) → outcome t r e ≡ refused BadReport t r
   unfolding outcome
-  no-report h l = rw (h, ne-eqb (length r) 512 l)
+  no-report h l = rw (h, ne-eqb (length r) reportSize l)
 
-  module _ (h : goodTable t ≡ true) (l : length r ≡ 512) where
+  module _ (h : goodTable t ≡ true) (l : length r ≡ reportSize) where
     pub looked : (o : EventRead) → eventOf e ≡ o → outcome t r e ≡ onEvent t r o
     unfolding outcome
-    looked o f = rw (h, eq-eqb (length r) 512 l, f)
+    looked o f = rw (h, eq-eqb (length r) reportSize l, f)
 
     pub no-event : eventOf e ≡ Unreadable → outcome t r e ≡ refused BadEvent t r
     no-event f = looked Unreadable f
@@ -51,28 +52,28 @@ module _ (t r e : List ℕ) where
     pub ruled-on : (v : Event) → eventOf e ≡ Readable v → outcome t r e ≡ carried t r (stateOf t) (ruling (stateOf t) v)
     ruled-on v f = looked (Readable v) f
 
-    pub no-nexus : (v : Event) → eventOf e ≡ Readable v → 8 ≤ nexusOf v → outcome t r e ≡ refused NexusAboveSeven t r
+    pub no-nexus : (v : Event) → eventOf e ≡ Readable v → nexuses ≤ nexusOf v → outcome t r e ≡ refused NexusAboveSeven t r
     no-nexus v f g = ruled-on v f ∙ rw (ruling-high (stateOf t) v g)
 
 -- where each answer comes from
 pub outcome-cases : (P : Outcome → Type 0) (t r e : List ℕ)
     → ((GoodTable t → ⊥) → P (refused BadTable t r))
-    → (GoodTable t → (length r ≡ 512 → ⊥) → P (refused BadReport t r))
-    → (GoodTable t → length r ≡ 512 → eventOf e ≡ Unreadable → P (refused BadEvent t r))
-    → (GoodTable t → length r ≡ 512 → (v : Event) → eventOf e ≡ Readable v → 8 ≤ nexusOf v → P (refused NexusAboveSeven t r))
-    → (GoodTable t → length r ≡ 512 → (v : Event) → eventOf e ≡ Readable v → nexusOf v < 8
+    → (GoodTable t → (length r ≡ reportSize → ⊥) → P (refused BadReport t r))
+    → (GoodTable t → length r ≡ reportSize → eventOf e ≡ Unreadable → P (refused BadEvent t r))
+    → (GoodTable t → length r ≡ reportSize → (v : Event) → eventOf e ≡ Readable v → nexuses ≤ nexusOf v → P (refused NexusAboveSeven t r))
+    → (GoodTable t → length r ≡ reportSize → (v : Event) → eventOf e ≡ Readable v → nexusOf v < nexuses
     → P (carried t r (stateOf t) (ruling (stateOf t) v)))
     → P (outcome t r e)
 unfolding outcome
 outcome-cases P t r e table report event nexus rule =
     cases P (goodTable t)
     (λ g.
-    cases P (eqb (length r) 512) (λ l. go (good-table-says t .0 g) (eqb-true (length r) 512 l) (eventOf e) refl)
-    (λ l. report (good-table-says t .0 g) (eqb-false (length r) 512 l)))
+    cases P (eqb (length r) reportSize) (λ l. go (good-table-says t .0 g) (eqb-true (length r) reportSize l) (eventOf e) refl)
+    (λ l. report (good-table-says t .0 g) (eqb-false (length r) reportSize l)))
     (λ g. table (λ w. not-both (good-table-says t .1 w) g))
   where
-    go : GoodTable t → length r ≡ 512 → (o : EventRead) → eventOf e ≡ o → P (onEvent t r o)
+    go : GoodTable t → length r ≡ reportSize → (o : EventRead) → eventOf e ≡ o → P (onEvent t r o)
     go w l Unreadable q = event w l q
     go w l (Readable v) q =
-        split (ltb (nexusOf v) 8) (λ h. rule w l v q (ltb-true (nexusOf v) 8 h))
-        (λ h. let n = ltb-false (nexusOf v) 8 h in rw (ruling-high (stateOf t) v n) (nexus w l v q n))
+        split (ltb (nexusOf v) nexuses) (λ h. rule w l v q (ltb-true (nexusOf v) nexuses h))
+        (λ h. let n = ltb-false (nexusOf v) nexuses h in rw (ruling-high (stateOf t) v n) (nexus w l v q n))

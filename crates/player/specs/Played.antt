@@ -6,17 +6,18 @@
 --   played n t r es       := the run over the first n pieces of es, from the table t and the report buffer r
 --   OnePlayed o ..        := what the buffers at exit have to be after one piece that apply answered with o, its line put at `at` of `out`
 --   PlayedAs p ..         := what the buffers at exit have to be, with lines up to `end` of `out`
-use Prim.Native.Nat.{ℕ, zero, suc, _+_, _/_, _≤_}
+use Prim.Native.Nat.{ℕ, zero, suc, _+_, _-_, _/_, _≤_}
 use mathlib.Core.Path.{_≡_}
 use mathlib.Core.List.{List, [], _++_}
 use lib.ListN.{take, drop}
 use Rattle.io.specs.Counts.{Counts}
+use Rattle.records.specs.Records.{taskSize}
 use Rattle.operations.specs.Operations.{Outcome, outcome}
 use Rattle.numbers.specs.Boundary.{answered}
 use Rattle.lines.specs.Lines.{line, Written}
 
 abbrev pub pieces : ℕ → ℕ
-pieces n = (n + 7) / 8
+pieces n = (n + (taskSize - 1)) / taskSize
 
 pub record Run : Type 0 where
   pub lines : List ℕ
@@ -26,12 +27,12 @@ pub record Run : Type 0 where
 abbrev pub behind : List ℕ → Run → Run
 behind ls p = record { lines = ls ++ p .lines; table = p .table; report = p .report }
 
--- "A last piece under 8 bytes is a bad event": take 8 leaves it as short as it is
+-- "A last piece under 8 bytes is a bad event": take leaves it as short as it is. An event record is as wide as a task record.
 unfoldable pub played : ℕ → List ℕ → List ℕ → List ℕ → Run
 played zero t r es = record { lines = []; table = t; report = r }
 played (suc n) t r es =
-    behind (line (answered (outcome t r (take 8 es))))
-    (played n ((outcome t r (take 8 es)) .table) ((outcome t r (take 8 es)) .report) (drop 8 es))
+    behind (line (answered (outcome t r (take taskSize es))))
+    (played n ((outcome t r (take taskSize es)) .table) ((outcome t r (take taskSize es)) .report) (drop taskSize es))
 
 pub record OnePlayed (o : Outcome) (before : List ℕ) (at : ℕ) (t r out : List ℕ) (end : ℕ) : Type 0 where
   pub text : Written before at out end (line (answered o))

@@ -14,3 +14,8 @@ pub mod Attentions
 pub mod CommandEntries
 pub mod Ends
 pub mod Refusals
+pub mod Ruled
+pub mod RulingCases
+pub mod NewTasks
+pub mod FreshSet
+pub mod WellParts

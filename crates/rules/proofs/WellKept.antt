@@ -7,7 +7,7 @@ use mathlib.Core.Option.{none, some}
 use native.Mathlib.Omega.{arith}
 use lib.Dec.{eqb, leb}
 use lib.ListN.{length, length-append, length-map, length-set}
-use borrow.Author.Tests.{lt-ltb, eqb-true, eq-eqb, not-true, leb-true, leb-false, le-leb, lt-leb}
+use borrow.Author.Tests.{lt-ltb, eqb-true, not-true, leb-true, leb-false, lt-leb}
 use Rattle.laws.specs.Lists.{any, first}
 use Rattle.laws.proofs.Bools.{and-true, not-both, cases}
 use Rattle.laws.proofs.Lists.{any-append, any-less, any-never, first-passes}
@@ -18,6 +18,7 @@ use Rattle.rules.specs.Bits.{afterPowerOn, afterHardReset, afterUnitRese
 use Rattle.rules.specs.Rulings.{State, fresh, endIf, kept, lost, fateByQerr, fateOf, newcomers, tellLosersFrom, noted, ruled}
 use Rattle.rules.specs.Rules.{sweeping, asksAca, check2, badAttribute, attributeOf, newTask, enter, finish, resetting, clearing, manage, acaWithout, happen, ruling}
 use Rattle.rules.specs.Well.{held, statesFit, faultFits, distinct, tooHigh, wellFormed}
+use Rattle.rules.proofs.WellParts.{well-formed-parts}
 use Rattle.rules.proofs.Fates.{isEnds, any-kept, length-split, gone}
 use Rattle.rules.proofs.Distinct.{length-restate, any-restate, distinct-restate, distinct-kept, distinct-join, same-parts}
 use Rattle.rules.proofs.Settled.{within-refl, settled-settle, settled-ordinary}
@@ -57,18 +58,8 @@ to-tested s e =
     }
 
 pub from-tested : (s : State) → Tested s → wellFormed s ≡ true
-unfolding wellFormed
 from-tested s w =
-    rw (
-      le-leb (s .header .run) 4 (w .run),
-      le-leb (length (s .tasks)) 64 (w .few),
-      eq-eqb (s .header .count) (length (s .tasks)) (w .counted),
-      eq-eqb (length (s .pending)) 8 (w .eight),
-      w .fault,
-      w .nexuses,
-      w .apart,
-      w .states,
-    )
+    well-formed-parts s (w .run) (w .few) (w .counted) (w .eight) (w .fault) (w .nexuses) ∙ rw (w .apart, w .states)
 
 -- What a change has to be ------------------------------------------------------------------------------------------------------------------
 

@@ -1,13 +1,11 @@
 use borrow.Author.Needs.{needs}
 use mathlib.Core.Path.{refl}
-use Rattle.rules.specs.Rulings.{fresh}
 use Rattle.records.specs.Numbers.{policyFrom}
-use Rattle.dedakhumi.proofs.Fresh.{fresh-bytes}
+use Rattle.dedakhumi.proofs.FreshTable.{fresh-bytes}
 use Rattle.dedakhumi.proofs.start.write_fresh.Statement.{statement}
 use Rattle.dedakhumi.proofs.start.write_fresh.Tie as tie
 
 pub write-fresh-spec : {M : Type 1} → statement M
-unfolding fresh
 write-fresh-spec =
     tie.close
     (tie.spec

@@ -7,7 +7,7 @@ use Rattle.records.specs.Records.{nexusSize}
 use Rattle.records.specs.Tables.{nexusesAt}
 use Rattle.steps.specs.Steps.{nextPlace}
 use Rattle.steps.proofs.InPlace.{Walking, walk-begins, walk-on, walk-ends}
-use Rattle.dedakhumi.specs.Fresh.{freshNexus, freshNexuses}
+use Rattle.dedakhumi.specs.FreshTable.{freshNexus, freshNexuses}
 use Rattle.dedakhumi.proofs.start.write_nexuses.Statement.{statement}
 use Rattle.dedakhumi.proofs.start.write_nexuses.Tie as tie
 

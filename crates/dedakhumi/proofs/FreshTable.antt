@@ -9,13 +9,15 @@ use Rattle.laws.specs.RecordsInLists.{putAt, eachRecord}
 use Rattle.rules.specs.Tasks.{places, nexuses}
 use Rattle.rules.specs.Bits.{noPending, afterPowerOn}
 use Rattle.rules.specs.Rulings.{fresh}
+use Rattle.rules.proofs.FreshSet.{fresh-header, fresh-pending, fresh-tasks}
 use Rattle.records.specs.Records.{headSize, nexusSize, headerBytes, nexusBytes}
 use Rattle.records.specs.Tables.{tableSize, tasksAt, nexusRecords, unusedRecords, tableWith, tableBytes}
 use Rattle.steps.specs.Steps.{nextPlace, vacatedBytes}
 use Rattle.steps.proofs.Closes.{cleared}
 use Rattle.steps.proofs.InPlace.{each-new}
+use Rattle.values.specs.Headers.{freshHeader}
 use Rattle.rules.specs.Types.{Policy, Pending}
-use Rattle.dedakhumi.specs.Fresh.{freshNexus, freshNexuses}
+use Rattle.dedakhumi.specs.FreshTable.{freshNexus, freshNexuses}
 
 abbrev powerOn : Pending
 powerOn = afterPowerOn noPending
@@ -63,6 +65,6 @@ module _ (b head : List ℕ) (long : length b ≡ tableSize) (wide : length head
 
 pub fresh-bytes :
     (p : Policy) (b : List ℕ) → length b ≡ tableSize
-    → vacatedBytes 0 places (freshNexuses (putAt headSize b 0 (headerBytes ((fresh p) .header)))) ≡ tableBytes (fresh p)
-unfolding tableBytes tableWith fresh told
-fresh-bytes p b long = tasks-fresh b (headerBytes ((fresh p) .header)) long refl
+    → vacatedBytes 0 places (freshNexuses (putAt headSize b 0 (headerBytes (freshHeader p)))) ≡ tableBytes (fresh p)
+unfolding tableBytes tableWith told
+fresh-bytes p b long = rw (fresh-header p, fresh-pending p, fresh-tasks p) (tasks-fresh b (headerBytes (freshHeader p)) long refl)

@@ -3,12 +3,14 @@ use Prim.Native.Nat.{ℕ}
 use mathlib.Core.List.{List, _++_}
 use lib.ListN.{take, drop}
 use Rattle.laws.specs.RecordsInLists.{eachRecord}
+use Rattle.rules.specs.Tasks.{nexuses}
 use Rattle.rules.specs.Bits.{noPending, afterPowerOn}
-use Rattle.records.specs.Records.{nexusBytes}
+use Rattle.records.specs.Records.{nexusSize, nexusBytes}
+use Rattle.records.specs.Tables.{nexusesAt}
 use Rattle.steps.specs.Steps.{nextPlace}
 
 abbrev pub freshNexus : ℕ → List ℕ → List ℕ
 freshNexus i r = nexusBytes i (afterPowerOn noPending) 0
 
 unfoldable pub freshNexuses : List ℕ → List ℕ
-freshNexuses b = take 8 b ++ eachRecord 8 freshNexus nextPlace 0 8 (drop 8 b)
+freshNexuses b = take nexusesAt b ++ eachRecord nexusSize freshNexus nextPlace 0 nexuses (drop nexusesAt b)
