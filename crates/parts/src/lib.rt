@@ -7,6 +7,7 @@ use values::Attribute;
 use values::Change;
 use values::Header;
 use values::Joins;
+use values::MOST_TASKS;
 use values::Notice;
 use values::Pending;
 use values::Sweep;
@@ -14,6 +15,7 @@ use values::Top;
 ghost use mathlib.Core.Path.{_≡_};
 ghost use mathlib.Core.Bool.{cond};
 ghost use lib.Dec.{leb};
+ghost use Rattle.rules.specs.Tasks.{places};
 ghost use Rattle.rules.specs.Bits.{top};
 ghost use Rattle.rules.specs.Rulings.{isClear};
 ghost use Rattle.rules.specs.Rules.{sweeping, asksAca, badAttribute, attributeOf, toldWithoutTas};
@@ -91,9 +93,9 @@ pub fn attribute_of(asked: Asked) -> Attribute
 }
 
 pub fn is_full(h: Header) -> bool
-    ensures { λ r. ⌜ r ≡ leb 64 (h .count) ⌝ }
+    ensures { λ r. ⌜ r ≡ leb places (h .count) ⌝ }
 {
-    64 <= h.count
+    MOST_TASKS <= h.count
 }
 
 pub fn sweeping_by(h: Header, w: Sweep) -> Change

@@ -11,13 +11,13 @@ use mathlib.Core.Path.{_≡_}
 use mathlib.Core.List.{List, [], _++_}
 use lib.ListN.{take, drop}
 use Rattle.io.specs.Counts.{Counts}
-use Rattle.records.specs.Records.{taskSize}
+use Rattle.records.specs.Records.{eventSize}
 use Rattle.operations.specs.Operations.{Outcome, outcome}
 use Rattle.numbers.specs.Boundary.{answered}
 use Rattle.lines.specs.Lines.{line, Written}
 
 abbrev pub pieces : ℕ → ℕ
-pieces n = (n + (taskSize - 1)) / taskSize
+pieces n = (n + (eventSize - 1)) / eventSize
 
 pub record Run : Type 0 where
   pub lines : List ℕ
@@ -31,8 +31,8 @@ behind ls p = record { lines = ls ++ p .lines; table = p .table; report = p .rep
 unfoldable pub played : ℕ → List ℕ → List ℕ → List ℕ → Run
 played zero t r es = record { lines = []; table = t; report = r }
 played (suc n) t r es =
-    behind (line (answered (outcome t r (take taskSize es))))
-    (played n ((outcome t r (take taskSize es)) .table) ((outcome t r (take taskSize es)) .report) (drop taskSize es))
+    behind (line (answered (outcome t r (take eventSize es))))
+    (played n ((outcome t r (take eventSize es)) .table) ((outcome t r (take eventSize es)) .report) (drop eventSize es))
 
 pub record OnePlayed (o : Outcome) (before : List ℕ) (at : ℕ) (t r out : List ℕ) (end : ℕ) : Type 0 where
   pub text : Written before at out end (line (answered o))

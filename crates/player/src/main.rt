@@ -4,9 +4,19 @@ mod play;
 use crate::play::play;
 use libc::STDIN_FILENO;
 use libc::STDOUT_FILENO;
+use octets::sizes::EVENT_SIZE;
+use octets::sizes::REPORT_SIZE;
+use octets::sizes::TABLE_SIZE;
 ghost use Prim.Native.Nat.{_*_, _≤_};
 ghost use lib.ListN.{length};
 ghost use Rattle.player.specs.Played.{pieces};
+
+// So many records are read at a time, and their lines written, each of at most 20 bytes.
+const RECORDS: usize = 4096;
+
+const EVENTS_SIZE: usize = EVENT_SIZE * RECORDS;
+
+const LINES_SIZE: usize = 20 * RECORDS;
 
 // Plays what one buffer takes in, and says whether to go on. Only at the end of the input is it not filled, so with a buffer of whole records
 // none is cut before that.
@@ -30,10 +40,10 @@ fn play_all(table: &mut [u8], report: &mut [u8], events: &mut [u8], out: &mut [u
 }
 
 fn main() {
-    let mut table = [0u8; 584];
-    let mut report = [0u8; 512];
-    let mut events = [0u8; 32768];
-    let mut out = [0u8; 81920];
+    let mut table = [0u8; TABLE_SIZE];
+    let mut report = [0u8; REPORT_SIZE];
+    let mut events = [0u8; EVENTS_SIZE];
+    let mut out = [0u8; LINES_SIZE];
     dedakhumi::dedakhumi_start(&mut table, 0);
     play_all(&mut table, &mut report, &mut events, &mut out);
 }

@@ -13,7 +13,7 @@ use Rattle.laws.specs.Lists.{any, first}
 use Rattle.laws.proofs.Bools.{and-true, cases, split}
 use Rattle.laws.proofs.Lists.{any-less, first-passes}
 use Rattle.rules.specs.Types.{Task, Entry, Finish, Good, CheckCondition, Function, AbortTask, AbortTaskSet, ClearTaskSet, ClearAca, LogicalUnitReset, Unknown, Happening, PowerOn, HardReset, NexusLoss, Event, Command, Completion, Management, Condition, Qerr, EndNone, EndAll, EndNexus, Allegiance, Clear, Faulted, Pending, Bit, PowerBit, HardBit, UnitBit, LossBit, ClearedBit, Top, NoBit, Highest, EndedAtEntry, Sweep, Nobody, ClearedBy, FailedTask, Ruling}
-use Rattle.rules.specs.Tasks.{acaTask, ofNexus, same, isEnabled, enabledTask, isNamed}
+use Rattle.rules.specs.Tasks.{nexuses, acaTask, ofNexus, same, isEnabled, enabledTask, isNamed}
 use Rattle.rules.specs.Bits.{noPending, senseFor, without, afterPowerOn, afterHardReset, afterUnitReset, afterNexusLoss, afterCleared}
 use Rattle.rules.specs.Rulings.{State, pendingOf, turn, lost, fateOf, tellLosersFrom, noted, answerOf, ruled}
 use Rattle.rules.specs.Rules.{reporting, checkCondition, check2, bitToReport, toldWithoutTas, toldByQerr, complete, clearing, manage, happen, nexusOf, ruleFor, ruling, step, answer}
@@ -206,7 +206,7 @@ map-at f (p ∷ ps) (suc i) l = map-at f ps i (omega arith)
 
 -- Each event
 
-module _ (s : State) (i : ℕ) (w : Tested s) (low : i < 8) where
+module _ (s : State) (i : ℕ) (w : Tested s) (low : i < nexuses) where
   here : i < length (s .pending)
   here = omega (arith, w .eight)
 
@@ -224,7 +224,7 @@ module _ (s : State) (i : ℕ) (w : Tested s) (low : i < 8) where
   manage-bits n Unknown = refl
 
   happen-bits :
-      (c : Happening) → nexusOf (Condition c) < 8
+      (c : Happening) → nexusOf (Condition c) < nexuses
       → pendingOf (ruled s (happen (s .header) c)) i ≡ changed (byHappening c i) (pendingOf s i)
   unfolding happen
   happen-bits PowerOn l = map-at afterPowerOn (s .pending) i here
@@ -273,9 +273,9 @@ module _ (s : State) (i : ℕ) (w : Tested s) (low : i < 8) where
 
   pending-after : (e : Event) → pendingOf (step s e) i ≡ changed (attention s e i) (pendingOf s i)
   unfolding step ruling ruleFor attention
-  pending-after e = split (ltb (nexusOf e) 8) (λ k. rw k (go e (ltb-true (nexusOf e) 8 k))) (λ k. rw k)
+  pending-after e = split (ltb (nexusOf e) nexuses) (λ k. rw k (go e (ltb-true (nexusOf e) nexuses k))) (λ k. rw k)
     where
-      go : (e : Event) → nexusOf e < 8 → pendingOf (ruled s (ruleFor s e)) i ≡ changed (caused s e i) (pendingOf s i)
+      go : (e : Event) → nexusOf e < nexuses → pendingOf (ruled s (ruleFor s e)) i ≡ changed (caused s e i) (pendingOf s i)
       go (Command c) l = command-due s c (omega (arith, w .eight)) i .bits
       go (Completion n g f) l = complete-bits n g f (isNamed n g (turn s))
       go (Management n f) l = manage-bits n f
@@ -285,7 +285,7 @@ module _ (s : State) (i : ℕ) (w : Tested s) (low : i < 8) where
 
 -- each pending bit of each nexus, after every event in every well-formed state: what the cause brings to that nexus, by the bit's rank
 pub bits-after :
-    (s : State) (e : Event) (i : ℕ) (b : Bit) → WellFormed s → i < 8
+    (s : State) (e : Event) (i : ℕ) (b : Bit) → WellFormed s → i < nexuses
     → isSet (pendingOf (step s e) i) b ≡ bitAfter (attention s e i) b (isSet (pendingOf s i) b)
 bits-after s e i b w l =
     rw (pending-after s i (says-tested s w) l e) (changed-bits (attention s e i) (pendingOf s i) b)
@@ -296,19 +296,19 @@ pub reported-is-answered :
     → answer s (Command c) ≡ EndedAtEntry 0x02 (senseFor b)
 unfolding answer ruling attention
 reported-is-answered s c i b w e =
-    split (ltb (c .nexus) 8)
-    (λ k. rw k (command-due s c (omega (arith, ltb-true (c .nexus) 8 k, w .eight)) i .told b (rw k at e)))
+    split (ltb (c .nexus) nexuses)
+    (λ k. rw k (command-due s c (omega (arith, ltb-true (c .nexus) nexuses k, w .eight)) i .told b (rw k at e)))
     (λ k. none-reported (rw k at e))
 
 -- the causing nexus is not told of its own aborts: at its CLEAR TASK SET and at its CHECK CONDITION each of its bits is as before
 pub causing-nexus-never-told :
-    (s : State) (n g : ℕ) (b : Bit) → WellFormed s → n < 8
+    (s : State) (n g : ℕ) (b : Bit) → WellFormed s → n < nexuses
     → (isSet (pendingOf (step s (Management n ClearTaskSet)) n) b ≡ isSet (pendingOf s n) b)
     × (isSet (pendingOf (step s (Completion n g CheckCondition)) n) b ≡ isSet (pendingOf s n) b)
 unfolding attention
 causing-nexus-never-told s n g b w l = (
-  rw (lt-ltb n 8 l, cleared) at (bits-after s (Management n ClearTaskSet) n b w l),
-  rw (lt-ltb n 8 l, failed) at (bits-after s (Completion n g CheckCondition) n b w l),
+  rw (lt-ltb n nexuses l, cleared) at (bits-after s (Management n ClearTaskSet) n b w l),
+  rw (lt-ltb n nexuses l, failed) at (bits-after s (Completion n g CheckCondition) n b w l),
 )
   where
     cleared : clearedBy s n n ≡ Unmoved
@@ -327,7 +327,7 @@ Brought s c i (Reports b) = (i ≡ c .nexus) × (highest (pendingOf s i) ≡ som
 brought : (s : State) (c : Entry) (i : ℕ) → Brought s c i (attention s (Command c) i)
 unfolding attention
 brought s c i =
-    cases (Brought s c i) (ltb (c .nexus) 8)
+    cases (Brought s c i) (ltb (c .nexus) nexuses)
     (λ k.
     cases (Brought s c i) (eqb i (c .nexus))
     (λ q.
@@ -345,7 +345,7 @@ brought s c i =
 -- "the highest rank is reported .. and that bit is cleared": a bit that a command changes is the highest of the command's own nexus, and
 -- the answer tells it; no other bit of any nexus changes
 pub only-one-reported :
-    (s : State) (c : Entry) (i : ℕ) (b : Bit) → WellFormed s → i < 8
+    (s : State) (c : Entry) (i : ℕ) (b : Bit) → WellFormed s → i < nexuses
     → (isSet (pendingOf (step s (Command c)) i) b ≡ isSet (pendingOf s i) b → ⊥)
     → (i ≡ c .nexus) × (highest (pendingOf s i) ≡ some b) × (answer s (Command c) ≡ EndedAtEntry 0x02 (senseFor b))
 only-one-reported s c i b w l moved = go (attention s (Command c) i) refl (brought s c i)

@@ -9,7 +9,7 @@ use borrow.Author.Tests.{ltb-true, lt-ltb, le-ltb, not-true, not-false}
 use Rattle.laws.specs.Lists.{any, first}
 use Rattle.laws.proofs.Bools.{and-true, cases, none-some, some-is}
 use Rattle.rules.specs.Types.{Task, Entry, Finish, Function, Happening, Event, Command, Completion, Management, Condition, Allegiance, Clear, Faulted, Header, Pending, Bit, Top, NoBit, Highest, Sweep, Nobody, NexusTasks, Sense, Done, NexusAboveSeven, NoSuchTask, NotEnabled, Ruling, Keeps, Changes}
-use Rattle.rules.specs.Tasks.{nexuses, isEnabled, acaTask, same, isNamed}
+use Rattle.rules.specs.Tasks.{places, nexuses, isEnabled, acaTask, same, isNamed}
 use Rattle.rules.specs.Bits.{senseFor}
 use Rattle.rules.specs.Rulings.{State, pendingOf, turn}
 use Rattle.rules.specs.Rules.{sense, endedWith, checkCondition, onlyIf, asksAca, check2, bitToReport, check3, badAttribute, accepting, firstThatRules, checks, enter, finish, complete, manage, happen, nexusOf, ruleFor, ruling}
@@ -78,7 +78,7 @@ pub check-cases :
     → Check ((b : Bit) → bitToReport c p ≡ Highest b → P (checkCondition h c (senseFor b) Nobody (Highest b))) (bitToReport c p ≡ NoBit
     → Check (badAttribute (h .aca) (c .asked) ≡ true → P (checkCondition h c (sense 0x5 0x49 0x00) Nobody NoBit)) (
     badAttribute (h .aca) (c .asked) ≡ false
-    → Check (leb 64 (h .count) ≡ true → P (Keeps (endedWith 0x28))) (leb 64 (h .count) ≡ false
+    → Check (leb places (h .count) ≡ true → P (Keeps (endedWith 0x28))) (leb places (h .count) ≡ false
     → P (Changes Done (accepting h c)))))))
     → P (enter h c here aca p)
 unfolding enter
@@ -92,8 +92,8 @@ check-cases P h c here aca p k =
     let k3 = passes k2 (check3-none h c (bitToReport c p) e3) in
     stop (λ q. only-some P (badAttribute (h .aca) (c .asked)) _ q (stops k3)) λ e4.
     let k4 = passes k3 (only-none (badAttribute (h .aca) (c .asked)) _ e4) in
-    stop (λ q. only-some P (leb 64 (h .count)) _ q (stops k4)) λ e5.
-    passes k4 (only-none (leb 64 (h .count)) _ e5))
+    stop (λ q. only-some P (leb places (h .count)) _ q (stops k4)) λ e5.
+    passes k4 (only-none (leb places (h .count)) _ e5))
 
 -- what the checks have said of a command that all of them let pass
 pub record Passed (h : Header) (c : Entry) (here aca : Bool) (p : Pending) : Type 0 where
@@ -101,7 +101,7 @@ pub record Passed (h : Header) (c : Entry) (here aca : Bool) (p : Pending) : Typ
   pub aca-lets-it : check2 (h .aca) c aca ≡ none
   pub no-attention : bitToReport c p ≡ NoBit
   pub attribute-good : badAttribute (h .aca) (c .asked) ≡ false
-  pub room : leb 64 (h .count) ≡ false
+  pub room : leb places (h .count) ≡ false
 
 -- a command: ended with CHECK CONDITION, kept out with another status, or accepted
 pub enter-cases :
@@ -134,14 +134,14 @@ check2-none f c aca =
 -- a completion: refused by 4, 5 or 6, or the enabled task of that nexus and tag ends
 pub completion-cases :
     (P : Ruling → Type 0) (s : State) (n g : ℕ) (f : Finish) → P (Keeps NexusAboveSeven) → P (Keeps NoSuchTask) → P (Keeps NotEnabled)
-    → ((t : Task) → n < 8 → first (same n g) (s .tasks) ≡ some t → isEnabled (t .state) ≡ true
+    → ((t : Task) → n < nexuses → first (same n g) (s .tasks) ≡ some t → isEnabled (t .state) ≡ true
     → P (Changes Done (finish (s .header) f t (isNamed n g (turn s)))))
     → P (ruling s (Completion n g f))
 unfolding ruling ruleFor complete
 completion-cases P s n g f high absent waits ends =
-    cases P (ltb n 8) (λ l. go (first (same n g) (s .tasks)) refl (ltb-true n 8 l)) (λ l. high)
+    cases P (ltb n nexuses) (λ l. go (first (same n g) (s .tasks)) refl (ltb-true n nexuses l)) (λ l. high)
   where
-    go : (o : Option Task) → first (same n g) (s .tasks) ≡ o → n < 8 → P (complete (s .header) o f (isNamed n g (turn s)))
+    go : (o : Option Task) → first (same n g) (s .tasks) ≡ o → n < nexuses → P (complete (s .header) o f (isNamed n g (turn s)))
     go none e l = absent
     go (some t) e l = cases P (isEnabled (t .state)) (λ k. ends t l e k) (λ k. waits)
 
@@ -149,7 +149,7 @@ completion-cases P s n g f high absent waits ends =
 pub other-cases :
     (P : Event → Ruling → Type 0) (s : State) → ((e : Event) → P e (Keeps NexusAboveSeven))
     → ((n g : ℕ) (f : Finish) → P (Completion n g f) (ruling s (Completion n g f)))
-    → ((c : Entry) → c .nexus < 8
+    → ((c : Entry) → c .nexus < nexuses
     → P (Command c) (enter (s .header) c (any (same (c .nexus) (c .tag)) (s .tasks)) (any acaTask (s .tasks)) (pendingOf s (c .nexus))))
     → ((n : ℕ) (f : Function) → P (Management n f) (manage (s .header) n f))
     → ((c : Happening) → P (Condition c) (happen (s .header) c))
@@ -157,11 +157,11 @@ pub other-cases :
 unfolding ruling ruleFor
 other-cases P s high completes enters manages happens (Completion n g f) = completes n g f
 other-cases P s high completes enters manages happens (Command c) =
-    cases (P (Command c)) (ltb (c .nexus) 8) (λ l. enters c (ltb-true (c .nexus) 8 l)) (λ l. high (Command c))
+    cases (P (Command c)) (ltb (c .nexus) nexuses) (λ l. enters c (ltb-true (c .nexus) nexuses l)) (λ l. high (Command c))
 other-cases P s high completes enters manages happens (Management n f) =
-    cases (P (Management n f)) (ltb n 8) (λ l. manages n f) (λ l. high (Management n f))
+    cases (P (Management n f)) (ltb n nexuses) (λ l. manages n f) (λ l. high (Management n f))
 other-cases P s high completes enters manages happens (Condition c) =
-    cases (P (Condition c)) (ltb (nexusOf (Condition c)) 8) (λ l. happens c) (λ l. high (Condition c))
+    cases (P (Condition c)) (ltb (nexusOf (Condition c)) nexuses) (λ l. happens c) (λ l. high (Condition c))
 
 -- The ruling by its event ------------------------------------------------------------------------------------------------------------------
 

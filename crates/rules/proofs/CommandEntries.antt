@@ -12,7 +12,7 @@ use borrow.Author.Tests.{lt-ltb, le-leb, lt-leb}
 use Rattle.laws.specs.Lists.{any, passing}
 use Rattle.laws.proofs.Bools.{cases}
 use Rattle.rules.specs.Types.{Task, Entry, Command, Allegiance, Clear, Faulted, Bit, NoBit, Sense, Ended, Nobody, NexusTasks, EndedAtEntry, Done, Ruling}
-use Rattle.rules.specs.Tasks.{acaTask, ofNexus, same, restate}
+use Rattle.rules.specs.Tasks.{places, nexuses, acaTask, ofNexus, same, restate}
 use Rattle.rules.specs.Bits.{top, senseFor}
 use Rattle.rules.specs.Rulings.{State, pendingOf, endIf, kept, fateOf, answerOf, ruled, endedFrom, reportOf, taskName}
 use Rattle.rules.specs.Rules.{sense, endedWith, checkCondition, check2, bitToReport, badAttribute, check5, byChecks, enter, ruleFor, ruling, step, answer, report}
@@ -28,14 +28,14 @@ use Rattle.rules.proofs.Attentions.{every-bit}
 
 -- "1. Same nexus and tag in the table (overlapped command)": a command from nexus 0 to 7 whose nexus and tag a task of the table has
 pub record Overlapped (s : State) (c : Entry) : Type 0 where
-  pub low : c .nexus < 8
+  pub low : c .nexus < nexuses
   pub here : any (same (c .nexus) (c .tag)) (s .tasks) ≡ true
 
 overlapped-ruling :
     (s : State) (c : Entry) → Overlapped s c
     → ruling s (Command c) ≡ checkCondition (s .header) c (sense 0xB 0x4E 0x00) (NexusTasks (c .nexus)) NoBit
 unfolding ruling ruleFor enter
-overlapped-ruling s c o = rw (lt-ltb (c .nexus) 8 (o .low), o .here)
+overlapped-ruling s c o = rw (lt-ltb (c .nexus) nexuses (o .low), o .here)
 
 -- "CHECK CONDITION 02h, sense Bh/4Eh/00h"
 pub overlapped-answer : (s : State) (c : Entry) → Overlapped s c → answer s (Command c) ≡ EndedAtEntry 0x02 (sense 0xB 0x4E 0x00)
@@ -123,7 +123,7 @@ pub bad-attribute-changes-nothing :
     → (step s (Command c) ≡ s) × (report s (Command c) ≡ [])
 unfolding answer step report ruling ruleFor
 bad-attribute-changes-nothing s c w =
-    cases (Unchanged s) (ltb (c .nexus) 8)
+    cases (Unchanged s) (ltb (c .nexus) nexuses)
     (λ l.
     check-cases (Unchanged s) (s .header) c (any (same (c .nexus) (c .tag)) (s .tasks)) (any acaTask (s .tasks)) (pendingOf s (c .nexus))
     (stop (λ y e. absurd (omega (arith, key-of e))) λ n1.
@@ -138,7 +138,7 @@ bad-attribute-changes-nothing s c w =
 
 -- a command from nexus 0 to 7 that checks 1 to 4 let pass
 pub record Passes (s : State) (c : Entry) : Type 0 where
-  pub low : c .nexus < 8
+  pub low : c .nexus < nexuses
   pub not-overlapped : any (same (c .nexus) (c .tag)) (s .tasks) ≡ false
   pub aca-lets-it : check2 (s .header .aca) c (any acaTask (s .tasks)) ≡ none
   pub no-attention : (c .exempt ≡ true) ⊎ (top (pendingOf s (c .nexus)) ≡ NoBit)
@@ -149,7 +149,7 @@ passed-ruling :
     → ruling s (Command c) ≡ byChecks (check5 (s .header) ∷ []) (s .header) c
 unfolding ruling ruleFor enter
 passed-ruling s c p =
-    rw (lt-ltb (c .nexus) 8 (p .low), p .not-overlapped, p .aca-lets-it, quiet (p .no-attention), p .attribute-good)
+    rw (lt-ltb (c .nexus) nexuses (p .low), p .not-overlapped, p .aca-lets-it, quiet (p .no-attention), p .attribute-good)
   where
     quiet : (c .exempt ≡ true) ⊎ (top (pendingOf s (c .nexus)) ≡ NoBit) → bitToReport c (pendingOf s (c .nexus)) ≡ NoBit
     quiet (inl e) = rw e
@@ -158,9 +158,9 @@ passed-ruling s c p =
 -- "5. 64 tasks: TASK SET FULL 28h. .. 6. Accepted": at 64 and at no fewer
 pub full-at-64-only :
     (s : State) (c : Entry) → WellFormed s → Passes s c
-    → (length (s .tasks) ≡ 64 → answer s (Command c) ≡ endedWith 0x28) × (length (s .tasks) < 64 → answer s (Command c) ≡ Done)
+    → (length (s .tasks) ≡ places → answer s (Command c) ≡ endedWith 0x28) × (length (s .tasks) < places → answer s (Command c) ≡ Done)
 unfolding answer
 full-at-64-only s c w p = (
-  λ h. rw (passed-ruling s c p, le-leb 64 (s .header .count) (omega (arith, w .counted))),
-  λ h. rw (passed-ruling s c p, lt-leb 64 (s .header .count) (omega (arith, w .counted))),
+  λ h. rw (passed-ruling s c p, le-leb places (s .header .count) (omega (arith, w .counted))),
+  λ h. rw (passed-ruling s c p, lt-leb places (s .header .count) (omega (arith, w .counted))),
 )

@@ -36,7 +36,7 @@ younger-changes-none a ts us = settle-prefix [] ts us
 -- "ABORT TASK SET .. ACA stays."
 pub abort-task-set-keeps-aca : (s : State) (n : ℕ) → (step s (Management n AbortTaskSet)) .header .aca ≡ s .header .aca
 unfolding step ruling ruleFor manage
-abort-task-set-keeps-aca s n = cases (λ r. (ruled s r) .header .aca ≡ s .header .aca) (ltb n 8) (λ e. refl) (λ e. refl)
+abort-task-set-keeps-aca s n = cases (λ r. (ruled s r) .header .aca ≡ s .header .aca) (ltb n nexuses) (λ e. refl) (λ e. refl)
 
 untold : (i k n : ℕ) (ls : List Task) (ps : List Pending) → i + k ≡ n → getD (tellLosersFrom i n ls ps) k noPending ≡ getD ps k noPending
 untold i k n ls [] e = refl
@@ -78,10 +78,10 @@ top-first p = go (p .power) (p .hard) (p .unit) (p .loss) (p .cleared)
     go false false false false false = refl
 
 -- an aborted task leaves the table, waiting or not
-pub aborted-is-gone : (s : State) (n g : ℕ) → n < 8 → any (same n g) ((step s (Management n (AbortTask g))) .tasks) ≡ false
+pub aborted-is-gone : (s : State) (n g : ℕ) → n < nexuses → any (same n g) ((step s (Management n (AbortTask g))) .tasks) ≡ false
 unfolding step ruling ruleFor manage
 aborted-is-gone s n g l =
-    rw (lt-ltb n 8 l, any-restate (same n g) (λ t st. refl) (s .header .aca) (s .header .aca), append-nil)
+    rw (lt-ltb n nexuses l, any-restate (same n g) (λ t st. refl) (s .header .aca) (s .header .aca), append-nil)
     (ended-gone (same n g) 0xFF (s .tasks))
 
 pub qerr-all-ends : (n g : ℕ) (p : Policy) (t : Task) → p .qerr ≡ EndAll → isEnds (fateOf (FailedTask n g p) t) ≡ true

@@ -11,7 +11,7 @@ use Rattle.laws.specs.Lists.{any, first}
 use Rattle.laws.proofs.Bools.{and-true, and-false, or-false, not-both, cases, split}
 use Rattle.laws.proofs.Lists.{first-passes, first-any, first-none}
 use Rattle.rules.specs.Types.{Simple, HeadOfQueue, Ordered, Aca, Task, Asked, Known, NoneOfFour, Entry, Finish, Function, AbortTask, AbortTaskSet, ClearTaskSet, ClearAca, LogicalUnitReset, Unknown, Happening, PowerOn, HardReset, NexusLoss, Event, Command, Completion, Management, Condition, Allegiance, Clear, Faulted, Pending, Bit, NoBit, Highest, Sense, Answer, Done, BadTable, BadReport, BadEvent, NexusAboveSeven, NoSuchTask, NotEnabled, EndedAtEntry, Rejected, BadPolicy}
-use Rattle.rules.specs.Tasks.{isAca, isEnabled, acaTask, same, enabledTask, isNamed}
+use Rattle.rules.specs.Tasks.{places, nexuses, isAca, isEnabled, acaTask, same, enabledTask, isNamed}
 use Rattle.rules.specs.Bits.{top}
 use Rattle.rules.specs.Rulings.{State, pendingOf, turn, answerOf}
 use Rattle.rules.specs.Rules.{asksAca, badAttribute, complete, clearing, manage, happen, nexusOf, ruleFor, ruling, answer}
@@ -71,8 +71,8 @@ module _ (s : State) (c : Entry) where
       go (Known t) (Faulted f) p q e = not-both (and-true (isAca t) _ e .1) refl
       go (Known t) Clear p q e = aca-without-aca (p ∙ asks-known (Known t) (and-true (isAca t) _ e .0)) q
 
-  full-stops : WellFormed s → leb 64 (s .header .count) ≡ true → Stopped s c
-  full-stops w e = full (omega (arith, leb-true 64 (s .header .count) e, w .counted, w .few))
+  full-stops : WellFormed s → leb places (s .header .count) ≡ true → Stopped s c
+  full-stops w e = full (omega (arith, leb-true places (s .header .count) e, w .counted, w .few))
 
   -- a command that all checks let pass is not stopped
   not-stopped :
@@ -88,7 +88,7 @@ module _ (s : State) (c : Entry) where
   not-stopped w p (unit-attention b x e) = not-both e (no-bit (pendingOf s (c .nexus)) b (rw x at (p .no-attention)))
   not-stopped w p (none-of-four e) = not-both refl (rw e at (p .attribute-good))
   not-stopped w p (aca-without-aca e a) = not-both refl (rw (e, a) at (p .attribute-good))
-  not-stopped w p (full e) = omega (arith, leb-false 64 (s .header .count) (p .room), w .counted)
+  not-stopped w p (full e) = omega (arith, leb-false places (s .header .count) (p .room), w .counted)
 
 -- What each answer says --------------------------------------------------------------------------------------------------------------------
 
@@ -102,7 +102,7 @@ Says s e Done = Unit {0}
 Says s e BadTable = ⊥
 Says s e BadReport = ⊥
 Says s e BadEvent = ⊥
-Says s e NexusAboveSeven = 8 ≤ nexusOf e
+Says s e NexusAboveSeven = nexuses ≤ nexusOf e
 Says s e NoSuchTask = Absent s e
 Says s e NotEnabled = Waits s e
 Says s e (EndedAtEntry st se) = (WellFormed s → EndsAtEntry s e) × Fits st se
@@ -170,7 +170,7 @@ module _ (s : State) where
   says : (e : Event) → Says s e (answer s e)
   unfolding answer ruling ruleFor
   says e =
-      cases (λ r. Says s e (answerOf r)) (ltb (nexusOf e) 8) (λ l. go e) (λ l. ltb-false (nexusOf e) 8 l)
+      cases (λ r. Says s e (answerOf r)) (ltb (nexusOf e) nexuses) (λ l. go e) (λ l. ltb-false (nexusOf e) nexuses l)
     where
       go : (e : Event) → Says s e (answerOf (ruleFor s e))
       go (Command c) = says-command c
@@ -180,21 +180,21 @@ module _ (s : State) where
 
 -- The answers ------------------------------------------------------------------------------------------------------------------------------
 
-answer-low : (s : State) (e : Event) → nexusOf e < 8 → answer s e ≡ answerOf (ruleFor s e)
+answer-low : (s : State) (e : Event) → nexusOf e < nexuses → answer s e ≡ answerOf (ruleFor s e)
 unfolding answer
 answer-low s e l = rw (ruling-low s e l)
 
 -- "4 | nexus above 7"
-pub nexus-says : (s : State) (e : Event) → (answer s e ≡ NexusAboveSeven) ↔ (8 ≤ nexusOf e)
+pub nexus-says : (s : State) (e : Event) → (answer s e ≡ NexusAboveSeven) ↔ (nexuses ≤ nexusOf e)
 unfolding answer
 nexus-says s e = (λ a. rw a at (says s e), λ l. rw (ruling-high s e l))
 
 -- "5 | completion: no such task": exactly where the event completes a task that is not in the table
-pub absent-says : (s : State) (e : Event) → nexusOf e < 8 → (answer s e ≡ NoSuchTask) ↔ Absent s e
+pub absent-says : (s : State) (e : Event) → nexusOf e < nexuses → (answer s e ≡ NoSuchTask) ↔ Absent s e
 unfolding complete
 absent-says s e low = (λ a. rw a at (says s e), back e low)
   where
-    back : (e : Event) → nexusOf e < 8 → Absent s e → answer s e ≡ NoSuchTask
+    back : (e : Event) → nexusOf e < nexuses → Absent s e → answer s e ≡ NoSuchTask
     back (Completion n g f) l (no-such-task x) =
         rw (answer-low s (Completion n g f) l, rule-completion s n g f) (go (first (same n g) (s .tasks)) refl)
       where
@@ -203,11 +203,11 @@ absent-says s e low = (λ a. rw a at (says s e), back e low)
         go (some t) q = not-both (first-any (same n g) (same n g) (s .tasks) t q (first-passes (same n g) (s .tasks) t q)) x
 
 -- "6 | completion: task not enabled": exactly where it completes one that is there and not enabled
-pub waits-says : (s : State) (e : Event) → WellFormed s → nexusOf e < 8 → (answer s e ≡ NotEnabled) ↔ Waits s e
+pub waits-says : (s : State) (e : Event) → WellFormed s → nexusOf e < nexuses → (answer s e ≡ NotEnabled) ↔ Waits s e
 unfolding complete
 waits-says s e w low = (λ a. rw a at (says s e), back e low)
   where
-    back : (e : Event) → nexusOf e < 8 → Waits s e → answer s e ≡ NotEnabled
+    back : (e : Event) → nexusOf e < nexuses → Waits s e → answer s e ≡ NotEnabled
     back (Completion n g f) l (not-enabled x) = go (first waiting (s .tasks)) refl
       where
         waiting : Task → Bool
@@ -226,11 +226,11 @@ waits-says s e w low = (λ a. rw a at (says s e), back e low)
 
 -- "7 | command ended at entry, with status and sense": exactly where the event is a command that one of the checks 1 to 5 stops
 pub entry-says :
-    (s : State) (e : Event) → WellFormed s → nexusOf e < 8
+    (s : State) (e : Event) → WellFormed s → nexusOf e < nexuses
     → ((st : ℕ) × (se : Sense) × (answer s e ≡ EndedAtEntry st se)) ↔ EndsAtEntry s e
 entry-says s e w low = (λ a. (rw (a .2) at (says s e)) .0 w, back e low)
   where
-    back : (e : Event) → nexusOf e < 8 → EndsAtEntry s e → (st : ℕ) × (se : Sense) × (answer s e ≡ EndedAtEntry st se)
+    back : (e : Event) → nexusOf e < nexuses → EndsAtEntry s e → (st : ℕ) × (se : Sense) × (answer s e ≡ EndedAtEntry st se)
     back (Command c) l (at-entry x) =
         rw (answer-low s (Command c) l, rule-command s c)
         (enter-cases (λ r. (st : ℕ) × (se : Sense) × (answerOf r ≡ EndedAtEntry st se)) (s .header) c
@@ -242,11 +242,11 @@ entry-says s e w low = (λ a. (rw (a .2) at (says s e)) .0 w, back e low)
         (λ p. absurd (not-stopped s c w p x)))
 
 -- "8 | function rejected": exactly where the function is unknown, or CLEAR ACA from another nexus than the faulted one
-pub rejected-says : (s : State) (e : Event) → nexusOf e < 8 → (answer s e ≡ Rejected) ↔ RejectedBy s e
+pub rejected-says : (s : State) (e : Event) → nexusOf e < nexuses → (answer s e ≡ Rejected) ↔ RejectedBy s e
 unfolding manage
 rejected-says s e low = (λ a. rw a at (says s e), back e low)
   where
-    back : (e : Event) → nexusOf e < 8 → RejectedBy s e → answer s e ≡ Rejected
+    back : (e : Event) → nexusOf e < nexuses → RejectedBy s e → answer s e ≡ Rejected
     back (Management n Unknown) l unknown-function = rw (answer-low s (Management n Unknown) l, rule-management s n Unknown)
     back (Management n ClearAca) l (not-faulted {f} a ne) =
         rw (answer-low s (Management n ClearAca) l, rule-management s n ClearAca, a, ne-eqb n f ne)

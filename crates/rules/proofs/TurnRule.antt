@@ -11,7 +11,7 @@ use Rattle.laws.specs.Lists.{one-if, any, count, first}
 use Rattle.laws.proofs.Bools.{and-true, and-false, or-false, or-true, not-both, none-some, cases, split}
 use Rattle.laws.proofs.Lists.{first-cases, first-passes, first-none, first-stands, first-append}
 use Rattle.rules.specs.Types.{Attribute, Simple, HeadOfQueue, Ordered, Aca, Task, Allegiance, Clear, Faulted, Finish, Completion, Nothing, Done}
-use Rattle.rules.specs.Tasks.{isHead, isPlain, isAca, isEnabled, acaTask, enabledTask, enabledHead, enabledPlain, same, whoseTurn, turnOf, isNamed}
+use Rattle.rules.specs.Tasks.{nexuses, isHead, isPlain, isAca, isEnabled, acaTask, enabledTask, enabledHead, enabledPlain, same, whoseTurn, turnOf, isNamed}
 use Rattle.rules.specs.Rulings.{State, turn}
 use Rattle.rules.specs.Rules.{complete, ruleFor, ruling, answer}
 use Rattle.rules.specs.Well.{Stands, WellFormed, settled, distinct}
@@ -179,9 +179,9 @@ named-completes s n g f w e = go (whoseTurn (s .header .aca) (s .header .run) (s
     go (some x) q z =
         let p = named-first (s .header .aca) (s .header .run) (s .tasks) x q in
         let o = first-stands (p .0) (s .tasks) x (p .1) in
-        let l : n < 8 = rw (same-parts n g x z .0) at (w .nexus (o .0) x (o .1) (o .2)) in
+        let l : n < nexuses = rw (same-parts n g x z .0) at (w .nexus (o .0) x (o .1) (o .2)) in
         let found = named-found (s .header .aca) (s .header .run) n g (s .tasks) x (says-tested s w .apart) q z in
-        rw (lt-ltb n 8 l, found, named-enabled s x w q)
+        rw (lt-ltb n nexuses l, found, named-enabled s x w q)
 
 nothing-none : (o : Option Task) → turnOf o ≡ Nothing → o ≡ none
 nothing-none none e = refl

@@ -13,7 +13,7 @@ use Rattle.laws.proofs.Bools.{and-true, not-both, cases}
 use Rattle.laws.proofs.Lists.{any-append, any-less, any-never, first-passes}
 use Rattle.rules.specs.Types.{Attribute, Simple, HeadOfQueue, Ordered, Aca, Enabled, Task, Asked, Known, NoneOfFour, Entry, Finish, Good, CheckCondition, Function, AbortTask, AbortTaskSet, ClearTaskSet, ClearAca, LogicalUnitReset, Unknown, Happening, PowerOn, HardReset, NexusLoss, Event, Policy, Allegiance, Clear, Faulted, Pending, Fate, Ends, Sweep, AcaTask, AllTasks, FailedTask, NexusTasks, Notice, Quiet, Reported, OthersLost, NexusLost, UnitWasReset, HardWasReset, PowerCameOn, NoTask, Change, Answer, Ruling, Keeps, Changes}
 use Rattle.values.specs.Headers.{runAfter, withAca, withRun}
-use Rattle.rules.specs.Tasks.{isAca, isEnabled, acaTask, ofNexus, same, restate}
+use Rattle.rules.specs.Tasks.{places, nexuses, isAca, isEnabled, acaTask, ofNexus, same, restate}
 use Rattle.rules.specs.Bits.{afterPowerOn, afterHardReset, afterUnitReset}
 use Rattle.rules.specs.Rulings.{State, fresh, endIf, kept, lost, fateByQerr, fateOf, newcomers, tellLosersFrom, noted, ruled}
 use Rattle.rules.specs.Rules.{sweeping, asksAca, check2, badAttribute, attributeOf, newTask, enter, finish, resetting, clearing, manage, acaWithout, happen, ruling}
@@ -28,9 +28,9 @@ use Rattle.rules.proofs.Cases.{enter-cases, check2-none, completion-cas
 -- the test, taken apart
 pub record Tested (s : State) : Type 0 where
   pub run : s .header .run ≤ 4
-  pub few : length (s .tasks) ≤ 64
+  pub few : length (s .tasks) ≤ places
   pub counted : s .header .count ≡ length (s .tasks)
-  pub eight : length (s .pending) ≡ 8
+  pub eight : length (s .pending) ≡ nexuses
   pub fault : faultFits (s .header .aca) ≡ true
   pub nexuses : any tooHigh (s .tasks) ≡ false
   pub apart : distinct (s .tasks) ≡ true
@@ -43,14 +43,14 @@ to-tested s e =
     let a2 = and-true _ (distinct (s .tasks)) (a1 .0) in
     let a3 = and-true _ (not (any tooHigh (s .tasks))) (a2 .0) in
     let a4 = and-true _ (faultFits (s .header .aca)) (a3 .0) in
-    let a5 = and-true _ (eqb (length (s .pending)) 8) (a4 .0) in
+    let a5 = and-true _ (eqb (length (s .pending)) nexuses) (a4 .0) in
     let a6 = and-true _ (eqb (s .header .count) (length (s .tasks))) (a5 .0) in
-    let a7 = and-true (leb (s .header .run) 4) (leb (length (s .tasks)) 64) (a6 .0) in
+    let a7 = and-true (leb (s .header .run) 4) (leb (length (s .tasks)) places) (a6 .0) in
     record {
       run = leb-true (s .header .run) 4 (a7 .0);
-      few = leb-true (length (s .tasks)) 64 (a7 .1);
+      few = leb-true (length (s .tasks)) places (a7 .1);
       counted = eqb-true (s .header .count) (length (s .tasks)) (a6 .1);
-      eight = eqb-true (length (s .pending)) 8 (a5 .1);
+      eight = eqb-true (length (s .pending)) nexuses (a5 .1);
       fault = a4 .1;
       nexuses = not-true _ (a3 .1);
       apart = a2 .1;
@@ -66,7 +66,7 @@ from-tested s w =
 -- a task that joins is new, of a nexus that there is, and has a place
 abbrev Joining : List Task → List Task → Type 0
 Joining ts [] = Unit {0}
-Joining ts (u ∷ []) = (tooHigh u ≡ false) × (any (same (u .nexus) (u .tag)) ts ≡ false) × (length ts < 64)
+Joining ts (u ∷ []) = (tooHigh u ≡ false) × (any (same (u .nexus) (u .tag)) ts ≡ false) × (length ts < places)
 Joining ts (u ∷ v ∷ vs) = ⊥
 
 -- in an ACA only an ACA task joins, where there is none
@@ -100,7 +100,7 @@ length-noted UnitWasReset ls ps = length-map ps afterUnitReset
 length-noted HardWasReset ls ps = length-map ps afterHardReset
 length-noted PowerCameOn ls ps = length-map ps afterPowerOn
 
-few-joined : (ts : List Task) (fs : List Fate) (js : List Task) → length ts ≤ 64 → Joining ts js → length (kept fs ts ++ js) ≤ 64
+few-joined : (ts : List Task) (fs : List Fate) (js : List Task) → length ts ≤ places → Joining ts js → length (kept fs ts ++ js) ≤ places
 few-joined ts fs [] a j = rw append-nil (omega (arith, length-split fs ts))
 few-joined ts fs (u ∷ []) a j = simp length-append (omega (arith, length-split fs ts, j .2))
 few-joined ts fs (u ∷ v ∷ vs) a j = absurd j
@@ -208,7 +208,7 @@ allowed-accept (Faulted f) ts fs c e o b =
     (refl, (k .2, aca-asked (c .asked) (k .1), refl, k .0))
 
 fair-enter :
-    (s : State) (c : Entry) (p : Pending) → Tested s → c .nexus < 8
+    (s : State) (c : Entry) (p : Pending) → Tested s → c .nexus < nexuses
     → FairR s (enter (s .header) c (any (same (c .nexus) (c .tag)) (s .tasks)) (any acaTask (s .tasks)) p)
 unfolding newTask
 fair-enter s c p w l =
@@ -219,7 +219,7 @@ fair-enter s c p w l =
     record {
       run = w .run;
       fault = w .fault;
-      joining = (lt-leb 8 (c .nexus) l, k .not-overlapped, omega (arith, leb-false 64 (s .header .count) (k .room), w .counted));
+      joining = (lt-leb nexuses (c .nexus) l, k .not-overlapped, omega (arith, leb-false places (s .header .count) (k .room), w .counted));
       allowed = allowed-accept (s .header .aca) (s .tasks) _ c (w .states) (k .aca-lets-it) (k .attribute-good);
     }
 
@@ -255,7 +255,7 @@ allowed-fault Clear n g ts fs t e h k = refl
 allowed-fault (Faulted f) n g ts fs t e h k = (eqb-true (t .nexus) f (held-found f [] (same n g) ts t e h k .1), tt)
 
 fair-finish :
-    (s : State) (n g : ℕ) (f : Finish) (t : Task) (named : Bool) → Tested s → n < 8 → first (same n g) (s .tasks) ≡ some t
+    (s : State) (n g : ℕ) (f : Finish) (t : Task) (named : Bool) → Tested s → n < nexuses → first (same n g) (s .tasks) ≡ some t
     → isEnabled (t .state) ≡ true → Fair s (finish (s .header) f t named)
 fair-finish s n g f t named w l h k =
     go f
@@ -275,7 +275,7 @@ fair-finish s n g f t named w l h k =
         record {
           run = runs;
           fault =
-              cases (λ b. faultFits b ≡ true) (t .naca) (λ e. lt-ltb (t .nexus) 8 (rw (q .0) l))
+              cases (λ b. faultFits b ≡ true) (t .naca) (λ e. lt-ltb (t .nexus) nexuses (rw (q .0) l))
               (λ e. cases (λ b. faultFits b ≡ true) (acaTask t) (λ a. refl) (λ a. w .fault));
           joining = tt;
           allowed =

@@ -10,7 +10,7 @@ use Rattle.laws.specs.Lists.{any, isNil}
 use Rattle.laws.proofs.Bools.{and-true, or-false, not-both, split}
 use Rattle.laws.proofs.Lists.{any-suffix}
 use Rattle.rules.specs.Types.{Attribute, Simple, HeadOfQueue, Ordered, Aca, TaskState, Dormant, Enabled, Blocked, Task, Event, Allegiance, Clear, Faulted}
-use Rattle.rules.specs.Tasks.{isAca, isEnabled, same, holdsBack, eligible, enabledIf}
+use Rattle.rules.specs.Tasks.{nexuses, isAca, isEnabled, same, holdsBack, eligible, enabledIf}
 use Rattle.rules.specs.Rulings.{State}
 use Rattle.rules.specs.Rules.{step}
 use Rattle.rules.specs.Well.{Stands, FitsWithoutAca, FitsInAca, WellFormed, sameState, settledTask, heldTask, settled, held, statesFit, faultFits, distinct, tooHigh, wellFormed}
@@ -216,12 +216,12 @@ distinct-places (t ∷ ts) h =
 
 -- The two say the same ---------------------------------------------------------------------------------------------------------------------
 
-fault-says : (a : Allegiance) → faultFits a ≡ true → (f : ℕ) → a ≡ Faulted f → f < 8
-fault-says a e f h = ltb-true f 8 (rw h at e)
+fault-says : (a : Allegiance) → faultFits a ≡ true → (f : ℕ) → a ≡ Faulted f → f < nexuses
+fault-says a e f h = ltb-true f nexuses (rw h at e)
 
-fault-fits : (a : Allegiance) → ((f : ℕ) → a ≡ Faulted f → f < 8) → faultFits a ≡ true
+fault-fits : (a : Allegiance) → ((f : ℕ) → a ≡ Faulted f → f < nexuses) → faultFits a ≡ true
 fault-fits Clear h = refl
-fault-fits (Faulted f) h = lt-ltb f 8 (h f refl)
+fault-fits (Faulted f) h = lt-ltb f nexuses (h f refl)
 
 pub tested-says : (s : State) → Tested s → WellFormed s
 tested-says s w =
@@ -231,7 +231,7 @@ tested-says s w =
       fault = fault-says (s .header .aca) (w .fault);
       run = w .run;
       eight = w .eight;
-      nexus = λ o t y e. leb-false 8 (t .nexus) (any-place tooHigh (s .tasks) o t y (w .nexuses) e);
+      nexus = λ o t y e. leb-false nexuses (t .nexus) (any-place tooHigh (s .tasks) o t y (w .nexuses) e);
       apart =
           λ o t b u y e p q.
           not-both (rw (p, q, eq-eqb (u .nexus) (u .nexus) refl, eq-eqb (u .tag) (u .tag) refl))
@@ -261,7 +261,7 @@ says-tested s w =
       counted = w .counted;
       eight = w .eight;
       fault = fault-fits (s .header .aca) (w .fault);
-      nexuses = any-places tooHigh (s .tasks) (λ o t y e. lt-leb 8 (t .nexus) (w .nexus o t y e));
+      nexuses = any-places tooHigh (s .tasks) (λ o t y e. lt-leb nexuses (t .nexus) (w .nexus o t y e));
       apart = distinct-places (s .tasks) (w .apart);
       states = states-fit (s .header .aca) (s .tasks) (w .without-aca) (w .with-aca);
     }

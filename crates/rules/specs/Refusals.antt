@@ -13,7 +13,7 @@ use mathlib.Core.Bool.{true, false, _&&_, not}
 use lib.ListN.{length}
 use Rattle.laws.specs.Lists.{any}
 use Rattle.rules.specs.Types.{Aca, Task, Known, NoneOfFour, Entry, Finish, ClearAca, Unknown, Event, Command, Completion, Management, Clear, Faulted, Bit}
-use Rattle.rules.specs.Tasks.{acaTask, same, enabledTask}
+use Rattle.rules.specs.Tasks.{places, acaTask, same, enabledTask}
 use Rattle.rules.specs.Rulings.{State, pendingOf}
 use Rattle.rules.specs.Attentions.{isSet}
 
@@ -39,7 +39,7 @@ pub data Stopped (s : State) (c : Entry) : Type 0 where
   none-of-four : c .asked ≡ NoneOfFour → Stopped s c
   aca-without-aca : c .asked ≡ Known Aca → s .header .aca ≡ Clear → Stopped s c
   -- "5. 64 tasks"
-  full : length (s .tasks) ≡ 64 → Stopped s c
+  full : length (s .tasks) ≡ places → Stopped s c
 
 -- "7 | command ended at entry, with status and sense"
 pub data EndsAtEntry (s : State) : Event → Type 0 where

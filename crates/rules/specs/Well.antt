@@ -45,11 +45,11 @@ pub record FitsInAca (f : ℕ) (older : List Task) (t : Task) (younger : List Ta
 -- "task count 0 to 64; ACA: 0 or 1 + faulted nexus; run 0 to 4", "8 nexus records"; "A task's nexus is 0 to 7."; "no two tasks share nexus and tag"
 pub record WellFormed (s : State) : Type 0 where
   pub counted : s .header .count ≡ length (s .tasks)
-  pub few : length (s .tasks) ≤ 64
-  pub fault : (f : ℕ) → s .header .aca ≡ Faulted f → f < 8
+  pub few : length (s .tasks) ≤ places
+  pub fault : (f : ℕ) → s .header .aca ≡ Faulted f → f < nexuses
   pub run : s .header .run ≤ 4
-  pub eight : length (s .pending) ≡ 8
-  pub nexus : (older : List Task) (t : Task) (younger : List Task) → Stands (s .tasks) older t younger → t .nexus < 8
+  pub eight : length (s .pending) ≡ nexuses
+  pub nexus : (older : List Task) (t : Task) (younger : List Task) → Stands (s .tasks) older t younger → t .nexus < nexuses
   pub apart : (older : List Task) (t : Task) (between : List Task) (u : Task) (younger : List Task)
       → Stands (s .tasks) older t (between ++ (u ∷ younger)) → t .nexus ≡ u .nexus → t .tag ≡ u .tag → ⊥
   pub without-aca : s .header .aca ≡ Clear → (older : List Task) (t : Task) (younger : List Task)

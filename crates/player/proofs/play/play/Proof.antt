@@ -5,14 +5,14 @@ use mathlib.Core.Path.{_≡_, refl, _∙_, ap, sym}
 use mathlib.Core.List.{List, append-nil}
 use lib.ListN.{length, take, drop}
 use Rattle.io.proofs.Counting.{counts}
-use Rattle.records.specs.Records.{taskSize}
+use Rattle.records.specs.Records.{eventSize}
 use Rattle.player.specs.Played.{Run, pieces, behind, played}
 use Rattle.player.proofs.Pieces.{piece, onward, begun}
 use Rattle.player.proofs.play.play.Statement.{statement}
 use Rattle.player.proofs.play.play.Tie as tie
 
 pub record Turn (table₀ report₀ events out₀ table report out : List ℕ) (n at i : ℕ) : Type 0 where
-  pub played-on : behind (take at out) (played (n - i) table report (drop (taskSize * i) events)) ≡ played n table₀ report₀ events
+  pub played-on : behind (take at out) (played (n - i) table report (drop (eventSize * i) events)) ≡ played n table₀ report₀ events
   pub table-long : length table ≡ length table₀
   pub report-long : length report ≡ length report₀
   pub out-long : length out ≡ length out₀
@@ -57,7 +57,7 @@ loop-again c =
     let es = args .events .now in
     let inside : loop .i < pieces (length es) = omega arith in
     record {
-      played-on = onward es (loop .table) (loop .report) (pieces (length es)) (loop .i) inside (piece es (taskSize * loop .i) (least .least .result) (omega arith) (least .least .ensures))
+      played-on = onward es (loop .table) (loop .report) (pieces (length es)) (loop .i) inside (piece es (eventSize * loop .i) (least .least .result) (omega arith) (least .least .ensures))
           (one .ensures .text) (one .ensures .table) (one .ensures .report) (inv .played-on);
       table-long = one .kept .0 ∙ inv .table-long;
       report-long = one .kept .1 .0 ∙ inv .report-long;
