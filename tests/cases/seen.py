@@ -18,7 +18,7 @@ class Layout:
     def made_by(cls, makers):
         """`makers` gives what Makers.antt defines under a name."""
         widths = [makers(f"{kind}Width") for kind in ("header", "nexus", "task", "ended")]
-        return cls(*widths, makers("nexusAt")(0), makers("taskAt")(0))
+        return cls(*widths, makers("nexusPlace")(0), makers("taskPlace")(0))
 
     def width_in_table(self, at):
         if at < self.nexuses_at:

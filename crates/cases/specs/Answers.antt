@@ -1,10 +1,10 @@
 -- Document 01, "Answer numbers": the lowest answer, bad tables and bad events.
 use Prim.Native.Nat.{ℕ, _+_, _-_}
 use mathlib.Core.List.{List, [], _∷_}
-use Rattle.cases.specs.Makers.{taskWidth, nexusAt, tableLength, reportLength, zeros, junk, changed, shorter, longer}
+use Rattle.cases.specs.Makers.{taskWidth, nexusPlace, tableLength, reportLength, zeros, junk, changed, shorter, longer}
 use Rattle.cases.specs.Makers.{simple, headOfQueue, ordered, aca, dormant, enabled, blocked}
 use Rattle.cases.specs.Makers.{header, task, unused, event, command, completion, management, condition, bits, quiet, table, clear}
-use Rattle.cases.specs.Shorthand.{line, nothing, noTable, keeps, refuses, from}
+use Rattle.cases.specs.Shorthand.{answerLine, nothing, noTable, keeps, refuses, from}
 use Rattle.cases.specs.Play.{same, now, Move, lend, start, name, Case}
 
 -- "The lowest of 1 to 4 that applies is given": the table, the report and the event are bad, and the nexus is 8
@@ -54,9 +54,9 @@ lowestIs4 =
 abbrev pub rejected : Case
 rejected =
     from (table (header 0x00 1 0 0) quiet (task 2 simple enabled 0 1 ∷ []))
-    (keeps (management 2 0 1) (line 8 0 0 0 0 0)
-    ∷ keeps (management 2 6 0x1234) (line 8 0 0 0 0 0)
-    ∷ keeps (management 2 0xFF 0) (line 8 0 0 0 0 0)
+    (keeps (management 2 0 1) (answerLine 8 0 0 0 0 0)
+    ∷ keeps (management 2 6 0x1234) (answerLine 8 0 0 0 0 0)
+    ∷ keeps (management 2 0xFF 0) (answerLine 8 0 0 0 0 0)
     ∷ [])
 
 -- "Starting a table looks at length (1), then policy (9)": "10b is bad", "the rest 0"
@@ -114,8 +114,8 @@ badHeads =
     ∷ table (header 0x00 0 0 5) quiet []
     ∷ table (changed 7 1 (header 0x00 0 0 0)) quiet []
     ∷ table (header 0x00 0 0 0) (bits 0 0 0 0 0 0 0 0x20) []
-    ∷ changed (nexusAt 0 + 2) 1 (changed (nexusAt 1 + 2) 0 (clear 0x00))
-    ∷ changed (nexusAt 0 + 7) 1 (clear 0x00)
+    ∷ changed (nexusPlace 0 + 2) 1 (changed (nexusPlace 1 + 2) 0 (clear 0x00))
+    ∷ changed (nexusPlace 0 + 7) 1 (clear 0x00)
     ∷ []))
 
 -- the task records: mark, nexus, attribute, state, control; attribute and state in an ACA too; an unused one that is counted, a used one that is

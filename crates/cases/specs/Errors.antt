@@ -1,8 +1,8 @@
 -- Document 01, "Plausible errors": each error as a case that tells it from the rule.
 use mathlib.Core.List.{[], _∷_}
 use Rattle.cases.specs.Makers.{simple, headOfQueue, ordered, aca, dormant, enabled, blocked}
-use Rattle.cases.specs.Makers.{header, task, ended, command, completion, management, bits, quiet, table, clear, report}
-use Rattle.cases.specs.Shorthand.{line, turn, nothing, does, enters, keeps, refuses, from}
+use Rattle.cases.specs.Makers.{header, task, endedRecord, command, completion, management, bits, quiet, table, clear, report}
+use Rattle.cases.specs.Shorthand.{answerLine, namesTask, nothing, does, enters, keeps, refuses, from}
 use Rattle.cases.specs.Play.{name, Case}
 
 -- "Enabling a dormant task because its older one ended in the event that set up the ACA.": 1.1 S behind 0.1 O stays dormant, has no turn,
@@ -12,7 +12,7 @@ dormantAsAcaBegins =
     from (clear 0x00)
     (enters (command 0 ordered 1 1) (table (header 0x00 1 0 0) quiet (task 0 ordered enabled 1 1 ∷ []))
     ∷ enters (command 1 simple 0 1) (table (header 0x00 2 0 0) quiet (task 0 ordered enabled 1 1 ∷ task 1 simple dormant 0 1 ∷ []))
-    ∷ does (completion 0 0x02 1) (line 0 0 0 0 0 1) (table (header 0x00 1 1 0) quiet (task 1 simple dormant 0 1 ∷ [])) (report (ended 0 0x02 1 ∷ []))
+    ∷ does (completion 0 0x02 1) (answerLine 0 0 0 0 0 1) (table (header 0x00 1 1 0) quiet (task 1 simple dormant 0 1 ∷ [])) (report (endedRecord 0 0x02 1 ∷ []))
     ∷ name nothing
     ∷ refuses (completion 1 0x00 1) 6
     ∷ [])
@@ -23,9 +23,9 @@ abbrev pub youngerHead : Case
 youngerHead =
     from (table (header 0x00 1 0 2) quiet (task 0 simple enabled 0 1 ∷ []))
     (enters (command 1 headOfQueue 0 1) (table (header 0x00 2 0 2) quiet (task 0 simple enabled 0 1 ∷ task 1 headOfQueue enabled 0 1 ∷ []))
-    ∷ name (turn 1 1)
-    ∷ does (completion 0 0x00 1) (line 0 0 0 0 0 1)
-    (table (header 0x00 1 0 2) quiet (task 1 headOfQueue enabled 0 1 ∷ [])) (report (ended 0 0x00 1 ∷ []))
+    ∷ name (namesTask 1 1)
+    ∷ does (completion 0 0x00 1) (answerLine 0 0 0 0 0 1)
+    (table (header 0x00 1 0 2) quiet (task 1 headOfQueue enabled 0 1 ∷ [])) (report (endedRecord 0 0x00 1 ∷ []))
     ∷ [])
 
 -- "Clearing ACA on ABORT TASK SET.": from the faulted nexus it ends the ACA task too; the ACA stays, so that 1.1 stays blocked, nobody has
@@ -33,10 +33,10 @@ youngerHead =
 abbrev pub abortTaskSetInAca : Case
 abortTaskSetInAca =
     from (table (header 0x00 3 1 0) quiet (task 0 simple blocked 0 1 ∷ task 1 simple blocked 0 1 ∷ task 0 aca enabled 0 9 ∷ []))
-    (does (management 0 2 0) (line 0 0 0 0 0 2)
-    (table (header 0x00 1 1 0) quiet (task 1 simple blocked 0 1 ∷ [])) (report (ended 0 0xFF 1 ∷ ended 0 0xFF 9 ∷ []))
+    (does (management 0 2 0) (answerLine 0 0 0 0 0 2)
+    (table (header 0x00 1 1 0) quiet (task 1 simple blocked 0 1 ∷ [])) (report (endedRecord 0 0xFF 1 ∷ endedRecord 0 0xFF 9 ∷ []))
     ∷ name nothing
-    ∷ keeps (command 1 simple 0 2) (line 7 0x08 0 0 0 0)
+    ∷ keeps (command 1 simple 0 2) (answerLine 7 0x08 0 0 0 0)
     ∷ [])
 
 -- "Telling the causing nexus 2Fh/00h about its own aborts.": QERR 01b aborts 0.2 and 1.1; the next command of nexus 0 enters, that of nexus 1
@@ -44,10 +44,10 @@ abortTaskSetInAca =
 abbrev pub causingNexus : Case
 causingNexus =
     from (table (header 0x01 3 0 0) quiet (task 0 simple enabled 0 1 ∷ task 0 simple enabled 0 2 ∷ task 1 simple enabled 0 1 ∷ []))
-    (does (completion 0 0x02 1) (line 0 0 0 0 0 3)
-    (table (header 0x01 0 0 0) (bits 0 0x10 0 0 0 0 0 0) []) (report (ended 0 0x02 1 ∷ ended 0 0xFF 2 ∷ ended 1 0xFF 1 ∷ []))
+    (does (completion 0 0x02 1) (answerLine 0 0 0 0 0 3)
+    (table (header 0x01 0 0 0) (bits 0 0x10 0 0 0 0 0 0) []) (report (endedRecord 0 0x02 1 ∷ endedRecord 0 0xFF 2 ∷ endedRecord 1 0xFF 1 ∷ []))
     ∷ enters (command 0 simple 0 3) (table (header 0x01 1 0 0) (bits 0 0x10 0 0 0 0 0 0) (task 0 simple enabled 0 3 ∷ []))
-    ∷ does (command 1 simple 0 3) (line 7 0x02 0x06 0x2F 0x00 0) (table (header 0x01 1 0 0) quiet (task 0 simple enabled 0 3 ∷ [])) (report [])
+    ∷ does (command 1 simple 0 3) (answerLine 7 0x02 0x06 0x2F 0x00 0) (table (header 0x01 1 0 0) quiet (task 0 simple enabled 0 3 ∷ [])) (report [])
     ∷ [])
 
 -- "Serving the youngest HEAD OF QUEUE task first, which starves older ones.": of 0.1, 1.1 and then 2.1 H the oldest has the turn each time
@@ -56,9 +56,9 @@ oldestHead =
     from (clear 0x00)
     (enters (command 0 headOfQueue 0 1) (table (header 0x00 1 0 0) quiet (task 0 headOfQueue enabled 0 1 ∷ []))
     ∷ enters (command 1 headOfQueue 0 1) (table (header 0x00 2 0 0) quiet (task 0 headOfQueue enabled 0 1 ∷ task 1 headOfQueue enabled 0 1 ∷ []))
-    ∷ name (turn 0 1)
-    ∷ does (completion 0 0x00 1) (line 0 0 0 0 0 1)
-    (table (header 0x00 1 0 1) quiet (task 1 headOfQueue enabled 0 1 ∷ [])) (report (ended 0 0x00 1 ∷ []))
+    ∷ name (namesTask 0 1)
+    ∷ does (completion 0 0x00 1) (answerLine 0 0 0 0 0 1)
+    (table (header 0x00 1 0 1) quiet (task 1 headOfQueue enabled 0 1 ∷ [])) (report (endedRecord 0 0x00 1 ∷ []))
     ∷ enters (command 2 headOfQueue 0 1) (table (header 0x00 2 0 1) quiet (task 1 headOfQueue enabled 0 1 ∷ task 2 headOfQueue enabled 0 1 ∷ []))
-    ∷ name (turn 1 1)
+    ∷ name (namesTask 1 1)
     ∷ [])

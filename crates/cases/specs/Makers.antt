@@ -15,7 +15,7 @@
 --
 --   headerWidth, nexusWidth, taskWidth, endedWidth, eventWidth  := the bytes of a record of each kind
 --   nexusCount, taskCount      := the nexus records and the task records of a table
---   nexusAt n, taskAt k        := where the record of nexus n stands in a table, and the task record k, the oldest being 0
+--   nexusPlace n, taskPlace k  := where the record of nexus n stands in a table, and the task record k, the oldest being 0
 --   tableLength, reportLength  := the bytes of a table, and of a report
 --
 --   simple, headOfQueue, ordered, aca  := "Attributes: 0 SIMPLE, 1 HEAD OF QUEUE, 2 ORDERED, 4 ACA."
@@ -25,7 +25,7 @@
 --   nexus i p n            := the record of nexus i: the pending bits p, and n in byte 4
 --   task i a s c g         := a task of nexus i: the attribute a, the state s, the control byte c, the tag g
 --   unused                 := an unused task record
---   ended i s g            := an ended record: nexus i, the status s, the tag g
+--   endedRecord i s g      := an ended record: nexus i, the status s, the tag g
 --   event k i a b g        := an event of kind k: nexus i, first a, second b, the tag g
 --   command i a b g        := "1 COMMAND: first is the attribute, any byte; second has bit 0 NACA and bit 1 exempt"
 --   completion i s g       := "2 COMPLETION: first is 00h GOOD or 02h CHECK CONDITION; second 0."
@@ -69,14 +69,14 @@ nexusCount = 8
 abbrev taskCount : ℕ
 taskCount = 64
 
-abbrev pub nexusAt : ℕ → ℕ
-nexusAt n = headerWidth + nexusWidth * n
+abbrev pub nexusPlace : ℕ → ℕ
+nexusPlace n = headerWidth + nexusWidth * n
 
-abbrev pub taskAt : ℕ → ℕ
-taskAt k = nexusAt nexusCount + taskWidth * k
+abbrev pub taskPlace : ℕ → ℕ
+taskPlace k = nexusPlace nexusCount + taskWidth * k
 
 abbrev pub tableLength : ℕ
-tableLength = taskAt taskCount
+tableLength = taskPlace taskCount
 
 abbrev pub reportLength : ℕ
 reportLength = endedWidth * taskCount
@@ -140,8 +140,8 @@ task i a s c g = 0x54 ∷ 0x54 ∷ i ∷ a ∷ s ∷ c ∷ tag g
 abbrev pub unused : List ℕ
 unused = 0x54 ∷ 0x54 ∷ zeros (taskWidth - 2)
 
-abbrev pub ended : ℕ → ℕ → ℕ → List ℕ
-ended i s g = 0x54 ∷ 0x45 ∷ i ∷ s ∷ 0 ∷ 0 ∷ tag g
+abbrev pub endedRecord : ℕ → ℕ → ℕ → List ℕ
+endedRecord i s g = 0x54 ∷ 0x45 ∷ i ∷ s ∷ 0 ∷ 0 ∷ tag g
 
 abbrev pub event : ℕ → ℕ → ℕ → ℕ → ℕ → List ℕ
 event k i a b g = 0x54 ∷ 0x56 ∷ k ∷ i ∷ a ∷ b ∷ tag g

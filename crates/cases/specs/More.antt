@@ -2,11 +2,11 @@
 -- docs/DECISIONS.md, "How the paper is read".
 use mathlib.Core.List.{List, [], _∷_, _++_}
 use Rattle.cases.specs.Play.{Case}
-use Rattle.cases.specs.Begin.{cleared, tagBytes}
+use Rattle.cases.specs.Begin.{cleared, tagOrder}
 use Rattle.cases.specs.Errors.{dormantAsAcaBegins, youngerHead, abortTaskSetInAca, causingNexus, oldestHead}
 use Rattle.cases.specs.Turns.{caseK, runStaysFour, orderedTurn, headOutOfTurn, failedTurn, turnInAca}
 use Rattle.cases.specs.Answers.{lowestIs1, lowestIs2, longReport, lowestIs3, lowestIs4, rejected, starting, naming, badHeads, badTasks, badWithoutAca, badInAca, unreachable, badEvents, eventLengths}
-use Rattle.cases.specs.Entries.{overlapFirst, overlapSettles, entrySetsUpNoAca, exempt, attributesInAca, ranks, bitsInAca, bitsBeforeAttribute}
+use Rattle.cases.specs.Entries.{overlapFirst, overlapSettles, entrySetsUpNoAca, exempt, attributesInAca, rankOrder, bitsInAca, bitsBeforeAttribute}
 use Rattle.cases.specs.Allegiances.{acaBegins, acaTaskGood, acaTaskFails, acaTaskFailsAgain, onlyAcaTaskCompletes, abortTaskInAca, clearTaskSetInAca, clearNoAca, clearAca, qerrEndsBlocked, qerrEndsDormant, qerrEndsNexusInAca}
 use Rattle.cases.specs.Aborts.{qerrNone, qerrAll, qerrNexus, clearTaskSet, clearTaskSetTas, otherAborts}
 use Rattle.cases.specs.Resets.{unitReset, hardReset, powerOn, faultedNexusLoss, otherNexusLoss}
@@ -16,7 +16,7 @@ use Rattle.cases.specs.Paper.{paper}
 abbrev pub more : List Case
 more =
     cleared
-    ∷ tagBytes
+    ∷ tagOrder
     ∷ dormantAsAcaBegins
     ∷ youngerHead
     ∷ abortTaskSetInAca
@@ -48,7 +48,7 @@ more =
     ∷ entrySetsUpNoAca
     ∷ exempt
     ∷ attributesInAca
-    ∷ ranks
+    ∷ rankOrder
     ∷ bitsInAca
     ∷ bitsBeforeAttribute
     ∷ acaBegins

@@ -3,8 +3,8 @@
 use Prim.Native.Nat.{ℕ}
 use mathlib.Core.List.{List, [], _∷_, _++_}
 use Rattle.cases.specs.Makers.{simple, headOfQueue, ordered, aca, dormant, enabled}
-use Rattle.cases.specs.Makers.{tableLength, junk, header, task, ended, command, completion, management, bits, quiet, table, clear, report}
-use Rattle.cases.specs.Shorthand.{line, turn, does, enters, keeps, refuses, from}
+use Rattle.cases.specs.Makers.{tableLength, junk, header, task, endedRecord, command, completion, management, bits, quiet, table, clear, report}
+use Rattle.cases.specs.Shorthand.{answerLine, namesTask, does, enters, keeps, refuses, from}
 use Rattle.cases.specs.Play.{now, Move, lend, start, name, Case}
 
 -- "A*: fresh, events 54 56 01 02 00 00 00 07 twice, then 54 56 02 02 00 00 00 07. First: 7, 02h, 6h/29h/00h; nexus record 54 4E 02 00 00 00
@@ -14,9 +14,9 @@ abbrev pub caseA : Case
 caseA =
     from (junk tableLength)
     (start 0x00 0 (now (table (header 0x00 0 0 0) (bits 1 1 1 1 1 1 1 1) []))
-    ∷ does (command 2 simple 0 7) (line 7 0x02 0x06 0x29 0x00 0) (table (header 0x00 0 0 0) (bits 1 1 0 1 1 1 1 1) []) (report [])
+    ∷ does (command 2 simple 0 7) (answerLine 7 0x02 0x06 0x29 0x00 0) (table (header 0x00 0 0 0) (bits 1 1 0 1 1 1 1 1) []) (report [])
     ∷ enters (command 2 simple 0 7) (table (header 0x00 1 0 0) (bits 1 1 0 1 1 1 1 1) (task 2 simple enabled 0 7 ∷ []))
-    ∷ does (completion 2 0x00 7) (line 0 0 0 0 0 1) (table (header 0x00 0 0 0) (bits 1 1 0 1 1 1 1 1) []) (report (ended 2 0x00 7 ∷ []))
+    ∷ does (completion 2 0x00 7) (answerLine 0 0 0 0 0 1) (table (header 0x00 0 0 0) (bits 1 1 0 1 1 1 1 1) []) (report (endedRecord 2 0x00 7 ∷ []))
     ∷ [])
 
 -- "B*: 0.1 S, 1.1 O, 0.2 S: enabled, dormant, dormant. 0.1 ends: enabled, dormant. 1.1 ends: 0.2 enabled."
@@ -27,9 +27,9 @@ caseB =
     ∷ enters (command 1 ordered 0 1) (table (header 0x00 2 0 0) quiet (task 0 simple enabled 0 1 ∷ task 1 ordered dormant 0 1 ∷ []))
     ∷ enters (command 0 simple 0 2)
     (table (header 0x00 3 0 0) quiet (task 0 simple enabled 0 1 ∷ task 1 ordered dormant 0 1 ∷ task 0 simple dormant 0 2 ∷ []))
-    ∷ does (completion 0 0x00 1) (line 0 0 0 0 0 1)
-    (table (header 0x00 2 0 0) quiet (task 1 ordered enabled 0 1 ∷ task 0 simple dormant 0 2 ∷ [])) (report (ended 0 0x00 1 ∷ []))
-    ∷ does (completion 1 0x00 1) (line 0 0 0 0 0 1) (table (header 0x00 1 0 0) quiet (task 0 simple enabled 0 2 ∷ [])) (report (ended 1 0x00 1 ∷ []))
+    ∷ does (completion 0 0x00 1) (answerLine 0 0 0 0 0 1)
+    (table (header 0x00 2 0 0) quiet (task 1 ordered enabled 0 1 ∷ task 0 simple dormant 0 2 ∷ [])) (report (endedRecord 0 0x00 1 ∷ []))
+    ∷ does (completion 1 0x00 1) (answerLine 0 0 0 0 0 1) (table (header 0x00 1 0 0) quiet (task 0 simple enabled 0 2 ∷ [])) (report (endedRecord 1 0x00 1 ∷ []))
     ∷ [])
 
 abbrev tasksOfC : List (List ℕ)
@@ -42,15 +42,15 @@ caseC =
     (enters (command 0 simple 0 1) (table (header 0x00 1 0 0) quiet (task 0 simple enabled 0 1 ∷ []))
     ∷ enters (command 1 headOfQueue 0 1) (table (header 0x00 2 0 0) quiet (task 0 simple enabled 0 1 ∷ task 1 headOfQueue enabled 0 1 ∷ []))
     ∷ enters (command 0 simple 0 2) (table (header 0x00 3 0 0) quiet tasksOfC)
-    ∷ name (turn 1 1)
+    ∷ name (namesTask 1 1)
     ∷ lend (table (header 0x00 3 0 1) quiet tasksOfC)
-    ∷ name (turn 1 1)
+    ∷ name (namesTask 1 1)
     ∷ lend (table (header 0x00 3 0 2) quiet tasksOfC)
-    ∷ name (turn 1 1)
+    ∷ name (namesTask 1 1)
     ∷ lend (table (header 0x00 3 0 3) quiet tasksOfC)
-    ∷ name (turn 1 1)
+    ∷ name (namesTask 1 1)
     ∷ lend (table (header 0x00 3 0 4) quiet tasksOfC)
-    ∷ name (turn 0 1)
+    ∷ name (namesTask 0 1)
     ∷ [])
 
 -- how D begins: 0.1 S with NACA 1, 1.1 O; 0.1 ends 02h
@@ -58,7 +58,7 @@ abbrev intoAca : List Move
 intoAca =
     enters (command 0 simple 1 1) (table (header 0x00 1 0 0) quiet (task 0 simple enabled 1 1 ∷ []))
     ∷ enters (command 1 ordered 0 1) (table (header 0x00 2 0 0) quiet (task 0 simple enabled 1 1 ∷ task 1 ordered dormant 0 1 ∷ []))
-    ∷ does (completion 0 0x02 1) (line 0 0 0 0 0 1) (table (header 0x00 1 1 0) quiet (task 1 ordered dormant 0 1 ∷ [])) (report (ended 0 0x02 1 ∷ []))
+    ∷ does (completion 0 0x02 1) (answerLine 0 0 0 0 0 1) (table (header 0x00 1 1 0) quiet (task 1 ordered dormant 0 1 ∷ [])) (report (endedRecord 0 0x02 1 ∷ []))
     ∷ []
 
 -- "D*: 0.1 S (NACA 1), 1.1 O; 0.1 ends 02h: ACA byte 1, 1.1 dormant. CLEAR ACA from 1: 8. From 0: 1.1 enabled."
@@ -66,8 +66,8 @@ abbrev pub caseD : Case
 caseD =
     from (clear 0x00)
     (intoAca
-    ++ (keeps (management 1 4 0) (line 8 0 0 0 0 0)
-    ∷ does (management 0 4 0) (line 0 0 0 0 0 0) (table (header 0x00 1 0 0) quiet (task 1 ordered enabled 0 1 ∷ [])) (report [])
+    ++ (keeps (management 1 4 0) (answerLine 8 0 0 0 0 0)
+    ∷ does (management 0 4 0) (answerLine 0 0 0 0 0 0) (table (header 0x00 1 0 0) quiet (task 1 ordered enabled 0 1 ∷ [])) (report [])
     ∷ []))
 
 -- "E*: in D's ACA, before any CLEAR ACA: 0.2 S gives 30h; 1.2 gives 08h, with NACA 1 30h; 0.3 attribute 4 enters enabled; 0.4 attribute 4
@@ -76,11 +76,11 @@ abbrev pub caseE : Case
 caseE =
     from (clear 0x00)
     (intoAca
-    ++ (keeps (command 0 simple 0 2) (line 7 0x30 0 0 0 0)
-    ∷ keeps (command 1 simple 0 2) (line 7 0x08 0 0 0 0)
-    ∷ keeps (command 1 simple 1 2) (line 7 0x30 0 0 0 0)
+    ++ (keeps (command 0 simple 0 2) (answerLine 7 0x30 0 0 0 0)
+    ∷ keeps (command 1 simple 0 2) (answerLine 7 0x08 0 0 0 0)
+    ∷ keeps (command 1 simple 1 2) (answerLine 7 0x30 0 0 0 0)
     ∷ enters (command 0 aca 0 3) (table (header 0x00 2 1 0) quiet (task 1 ordered dormant 0 1 ∷ task 0 aca enabled 0 3 ∷ []))
-    ∷ keeps (command 0 aca 0 4) (line 7 0x30 0 0 0 0)
+    ∷ keeps (command 0 aca 0 4) (answerLine 7 0x30 0 0 0 0)
     ∷ []))
 
 -- "F*: policy 01h, 0.1 S, 1.1 S; 0.1 ends 02h, NACA 0: report 0.1 02h, 1.1 FFh; nexus 1 bit 4. Policy 05h: 1.1 40h, no bit."
@@ -89,12 +89,12 @@ caseF =
     from (clear 0x01)
     (enters (command 0 simple 0 1) (table (header 0x01 1 0 0) quiet (task 0 simple enabled 0 1 ∷ []))
     ∷ enters (command 1 simple 0 1) (table (header 0x01 2 0 0) quiet (task 0 simple enabled 0 1 ∷ task 1 simple enabled 0 1 ∷ []))
-    ∷ does (completion 0 0x02 1) (line 0 0 0 0 0 2)
-    (table (header 0x01 0 0 0) (bits 0 0x10 0 0 0 0 0 0) []) (report (ended 0 0x02 1 ∷ ended 1 0xFF 1 ∷ []))
+    ∷ does (completion 0 0x02 1) (answerLine 0 0 0 0 0 2)
+    (table (header 0x01 0 0 0) (bits 0 0x10 0 0 0 0 0 0) []) (report (endedRecord 0 0x02 1 ∷ endedRecord 1 0xFF 1 ∷ []))
     ∷ lend (clear 0x05)
     ∷ enters (command 0 simple 0 1) (table (header 0x05 1 0 0) quiet (task 0 simple enabled 0 1 ∷ []))
     ∷ enters (command 1 simple 0 1) (table (header 0x05 2 0 0) quiet (task 0 simple enabled 0 1 ∷ task 1 simple enabled 0 1 ∷ []))
-    ∷ does (completion 0 0x02 1) (line 0 0 0 0 0 2) (table (header 0x05 0 0 0) quiet []) (report (ended 0 0x02 1 ∷ ended 1 0x40 1 ∷ []))
+    ∷ does (completion 0 0x02 1) (answerLine 0 0 0 0 0 2) (table (header 0x05 0 0 0) quiet []) (report (endedRecord 0 0x02 1 ∷ endedRecord 1 0x40 1 ∷ []))
     ∷ [])
 
 -- "G*: 0.1, 1.1, 0.2 S; ABORT TASK SET from 0: 0.1 and 0.2 FFh; 1.1 is first."
@@ -105,8 +105,8 @@ caseG =
     ∷ enters (command 1 simple 0 1) (table (header 0x00 2 0 0) quiet (task 0 simple enabled 0 1 ∷ task 1 simple enabled 0 1 ∷ []))
     ∷ enters (command 0 simple 0 2)
     (table (header 0x00 3 0 0) quiet (task 0 simple enabled 0 1 ∷ task 1 simple enabled 0 1 ∷ task 0 simple enabled 0 2 ∷ []))
-    ∷ does (management 0 2 0) (line 0 0 0 0 0 2)
-    (table (header 0x00 1 0 0) quiet (task 1 simple enabled 0 1 ∷ [])) (report (ended 0 0xFF 1 ∷ ended 0 0xFF 2 ∷ []))
+    ∷ does (management 0 2 0) (answerLine 0 0 0 0 0 2)
+    (table (header 0x00 1 0 0) quiet (task 1 simple enabled 0 1 ∷ [])) (report (endedRecord 0 0xFF 1 ∷ endedRecord 0 0xFF 2 ∷ []))
     ∷ [])
 
 -- "H*: 0.1, 0.2 S; COMMAND 0.1: 7, Bh/4Eh/00h, both FFh, task count 0."
@@ -115,7 +115,7 @@ caseH =
     from (clear 0x00)
     (enters (command 0 simple 0 1) (table (header 0x00 1 0 0) quiet (task 0 simple enabled 0 1 ∷ []))
     ∷ enters (command 0 simple 0 2) (table (header 0x00 2 0 0) quiet (task 0 simple enabled 0 1 ∷ task 0 simple enabled 0 2 ∷ []))
-    ∷ does (command 0 simple 0 1) (line 7 0x02 0x0B 0x4E 0x00 2) (table (header 0x00 0 0 0) quiet []) (report (ended 0 0xFF 1 ∷ ended 0 0xFF 2 ∷ []))
+    ∷ does (command 0 simple 0 1) (answerLine 7 0x02 0x0B 0x4E 0x00 2) (table (header 0x00 0 0 0) quiet []) (report (endedRecord 0 0xFF 1 ∷ endedRecord 0 0xFF 2 ∷ []))
     ∷ [])
 
 -- "I*: completing a dormant task 6; an absent one 5; nexus 8 gives 4, 7 is taken; attribute 3, or 4 without ACA, 5h/49h/00h."
@@ -129,8 +129,8 @@ caseI =
     ∷ refuses (command 8 simple 0 1) 4
     ∷ enters (command 7 simple 0 1)
     (table (header 0x00 3 0 0) quiet (task 0 ordered enabled 0 1 ∷ task 1 simple dormant 0 1 ∷ task 7 simple dormant 0 1 ∷ []))
-    ∷ keeps (command 2 3 0 1) (line 7 0x02 0x05 0x49 0x00 0)
-    ∷ keeps (command 2 aca 0 1) (line 7 0x02 0x05 0x49 0x00 0)
+    ∷ keeps (command 2 3 0 1) (answerLine 7 0x02 0x05 0x49 0x00 0)
+    ∷ keeps (command 2 aca 0 1) (answerLine 7 0x02 0x05 0x49 0x00 0)
     ∷ [])
 
 abbrev pub paper : List Case

@@ -1,8 +1,8 @@
 -- Document 01, "Ends, ACA and aborts": resets and pending bits.
 use Prim.Native.Nat.{ℕ}
 use mathlib.Core.List.{List, [], _∷_}
-use Rattle.cases.specs.Makers.{simple, aca, enabled, blocked, header, task, ended, management, condition, bits, table, report}
-use Rattle.cases.specs.Shorthand.{line, does, from}
+use Rattle.cases.specs.Makers.{simple, aca, enabled, blocked, header, task, endedRecord, management, condition, bits, table, report}
+use Rattle.cases.specs.Shorthand.{answerLine, does, from}
 use Rattle.cases.specs.Play.{same, start, Case}
 
 -- policy 07h, an ACA of nexus 3, run 4, and in the pending bits each that a reset takes or leaves; 1.1 S blocked, and the ACA task 3.9
@@ -15,23 +15,23 @@ beforeReset =
 abbrev pub unitReset : Case
 unitReset =
     from beforeReset
-    (does (management 6 5 0) (line 0 0 0 0 0 2)
-    (table (header 0x07 0 0 0) (bits 0x07 0x06 0x04 0x04 0x04 0x04 0x05 0x06) []) (report (ended 1 0xFF 1 ∷ ended 3 0xFF 9 ∷ []))
+    (does (management 6 5 0) (answerLine 0 0 0 0 0 2)
+    (table (header 0x07 0 0 0) (bits 0x07 0x06 0x04 0x04 0x04 0x04 0x05 0x06) []) (report (endedRecord 1 0xFF 1 ∷ endedRecord 3 0xFF 9 ∷ []))
     ∷ [])
 
 -- "Hard reset likewise: bit 1, losing 2 to 4."
 abbrev pub hardReset : Case
 hardReset =
     from beforeReset
-    (does (condition 0 2) (line 0 0 0 0 0 2)
-    (table (header 0x07 0 0 0) (bits 0x03 0x02 0x02 0x02 0x02 0x02 0x03 0x02) []) (report (ended 1 0xFF 1 ∷ ended 3 0xFF 9 ∷ []))
+    (does (condition 0 2) (answerLine 0 0 0 0 0 2)
+    (table (header 0x07 0 0 0) (bits 0x03 0x02 0x02 0x02 0x02 0x02 0x03 0x02) []) (report (endedRecord 1 0xFF 1 ∷ endedRecord 3 0xFF 9 ∷ []))
     ∷ [])
 
 -- "Power on likewise: bit 0 and no other." "A fresh table equals the state after power on."
 abbrev pub powerOn : Case
 powerOn =
     from beforeReset
-    (does (condition 0 1) (line 0 0 0 0 0 2) (table (header 0x07 0 0 0) (bits 1 1 1 1 1 1 1 1) []) (report (ended 1 0xFF 1 ∷ ended 3 0xFF 9 ∷ []))
+    (does (condition 0 1) (answerLine 0 0 0 0 0 2) (table (header 0x07 0 0 0) (bits 1 1 1 1 1 1 1 1) []) (report (endedRecord 1 0xFF 1 ∷ endedRecord 3 0xFF 9 ∷ []))
     ∷ start 0x07 0 same
     ∷ [])
 
@@ -40,18 +40,18 @@ powerOn =
 abbrev pub faultedNexusLoss : Case
 faultedNexusLoss =
     from beforeReset
-    (does (condition 3 3) (line 0 0 0 0 0 1)
-    (table (header 0x07 1 0 4) (bits 0x1F 0x1E 0x1C 0x08 0x10 0x00 0x01 0x02) (task 1 simple enabled 0 1 ∷ [])) (report (ended 3 0xFF 9 ∷ []))
+    (does (condition 3 3) (answerLine 0 0 0 0 0 1)
+    (table (header 0x07 1 0 4) (bits 0x1F 0x1E 0x1C 0x08 0x10 0x00 0x01 0x02) (task 1 simple enabled 0 1 ∷ [])) (report (endedRecord 3 0xFF 9 ∷ []))
     ∷ [])
 
 -- DECISIONS: "an ACA of another nexus stays": nexus 1 with its task, nexus 2 and 5 without one
 abbrev pub otherNexusLoss : Case
 otherNexusLoss =
     from beforeReset
-    (does (condition 1 3) (line 0 0 0 0 0 1)
-    (table (header 0x07 1 4 4) (bits 0x1F 0x0E 0x1C 0x18 0x10 0x00 0x01 0x02) (task 3 aca enabled 0 9 ∷ [])) (report (ended 1 0xFF 1 ∷ []))
-    ∷ does (condition 2 3) (line 0 0 0 0 0 0)
+    (does (condition 1 3) (answerLine 0 0 0 0 0 1)
+    (table (header 0x07 1 4 4) (bits 0x1F 0x0E 0x1C 0x18 0x10 0x00 0x01 0x02) (task 3 aca enabled 0 9 ∷ [])) (report (endedRecord 1 0xFF 1 ∷ []))
+    ∷ does (condition 2 3) (answerLine 0 0 0 0 0 0)
     (table (header 0x07 1 4 4) (bits 0x1F 0x0E 0x0C 0x18 0x10 0x00 0x01 0x02) (task 3 aca enabled 0 9 ∷ [])) (report [])
-    ∷ does (condition 5 3) (line 0 0 0 0 0 0)
+    ∷ does (condition 5 3) (answerLine 0 0 0 0 0 0)
     (table (header 0x07 1 4 4) (bits 0x1F 0x0E 0x0C 0x18 0x10 0x08 0x01 0x02) (task 3 aca enabled 0 9 ∷ [])) (report [])
     ∷ [])

@@ -1,7 +1,7 @@
 -- Answers and moves in short, as the cases list them.
 --
---   line a s k c q n       := the numbers of an answer as the player writes them: answer, status, key, code, qualifier, ended count
---   turn n g, nothing, noTable  := what naming says: 0 and the task n.g; 0 and "nothing"; 1 with zeros
+--   answerLine a s k c q n := the numbers of an answer as the player writes them: answer, status, key, code, qualifier, ended count
+--   namesTask n g, nothing, noTable := what naming says: 0 and the task n.g; 0 and "nothing"; 1 with zeros
 --   does e a t r           := the event e gets a; the table is then t, and the report r
 --   enters e t             := the command e gets 0 and all zeros; the table is then t, and the report all zeros
 --   keeps e a              := the event e gets a; the table stays the same, and the report is all zeros
@@ -12,11 +12,11 @@ use mathlib.Core.List.{List, [], _∷_}
 use Rattle.cases.specs.Makers.{reportLength, report, junk}
 use Rattle.cases.specs.Play.{same, now, Move, apply, Case}
 
-abbrev pub line : ℕ → ℕ → ℕ → ℕ → ℕ → ℕ → List ℕ
-line a s k c q n = a ∷ s ∷ k ∷ c ∷ q ∷ n ∷ []
+abbrev pub answerLine : ℕ → ℕ → ℕ → ℕ → ℕ → ℕ → List ℕ
+answerLine a s k c q n = a ∷ s ∷ k ∷ c ∷ q ∷ n ∷ []
 
-abbrev pub turn : ℕ → ℕ → List ℕ
-turn n g = 0 ∷ 1 ∷ n ∷ g ∷ []
+abbrev pub namesTask : ℕ → ℕ → List ℕ
+namesTask n g = 0 ∷ 1 ∷ n ∷ g ∷ []
 
 abbrev pub nothing : List ℕ
 nothing = 0 ∷ 0 ∷ 0 ∷ 0 ∷ []
@@ -28,13 +28,13 @@ abbrev pub does : List ℕ → List ℕ → List ℕ → List ℕ → Move
 does e a t r = apply e a (now t) (now r)
 
 abbrev pub enters : List ℕ → List ℕ → Move
-enters e t = does e (line 0 0 0 0 0 0) t (report [])
+enters e t = does e (answerLine 0 0 0 0 0 0) t (report [])
 
 abbrev pub keeps : List ℕ → List ℕ → Move
 keeps e a = apply e a same (now (report []))
 
 abbrev pub refuses : List ℕ → ℕ → Move
-refuses e n = apply e (line n 0 0 0 0 0) same same
+refuses e n = apply e (answerLine n 0 0 0 0 0) same same
 
 abbrev pub from : List ℕ → List Move → Case
 from t ms = record { begins = t; buffer = junk reportLength; moves = ms }

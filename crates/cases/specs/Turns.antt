@@ -1,8 +1,8 @@
 -- Document 01, "Turn rule (house)".
 use mathlib.Core.List.{[], _∷_}
 use Rattle.cases.specs.Makers.{simple, headOfQueue, ordered, aca, dormant, enabled, blocked}
-use Rattle.cases.specs.Makers.{header, task, ended, command, completion, quiet, table, report}
-use Rattle.cases.specs.Shorthand.{line, turn, nothing, does, enters, from}
+use Rattle.cases.specs.Makers.{header, task, endedRecord, command, completion, quiet, table, report}
+use Rattle.cases.specs.Shorthand.{answerLine, namesTask, nothing, does, enters, from}
 use Rattle.cases.specs.Play.{lend, name, Case}
 
 -- "K: 0.1 S at run 0, a new H before each turn: 0.1 ends at turn 5." Run is 1, 2, 3, 4 on the way and 0 after the fifth turn.
@@ -10,22 +10,22 @@ abbrev pub caseK : Case
 caseK =
     from (table (header 0x00 1 0 0) quiet (task 0 simple enabled 0 1 ∷ []))
     (enters (command 1 headOfQueue 0 1) (table (header 0x00 2 0 0) quiet (task 0 simple enabled 0 1 ∷ task 1 headOfQueue enabled 0 1 ∷ []))
-    ∷ name (turn 1 1)
-    ∷ does (completion 1 0x00 1) (line 0 0 0 0 0 1) (table (header 0x00 1 0 1) quiet (task 0 simple enabled 0 1 ∷ [])) (report (ended 1 0x00 1 ∷ []))
+    ∷ name (namesTask 1 1)
+    ∷ does (completion 1 0x00 1) (answerLine 0 0 0 0 0 1) (table (header 0x00 1 0 1) quiet (task 0 simple enabled 0 1 ∷ [])) (report (endedRecord 1 0x00 1 ∷ []))
     ∷ enters (command 1 headOfQueue 0 2) (table (header 0x00 2 0 1) quiet (task 0 simple enabled 0 1 ∷ task 1 headOfQueue enabled 0 2 ∷ []))
-    ∷ name (turn 1 2)
-    ∷ does (completion 1 0x00 2) (line 0 0 0 0 0 1) (table (header 0x00 1 0 2) quiet (task 0 simple enabled 0 1 ∷ [])) (report (ended 1 0x00 2 ∷ []))
+    ∷ name (namesTask 1 2)
+    ∷ does (completion 1 0x00 2) (answerLine 0 0 0 0 0 1) (table (header 0x00 1 0 2) quiet (task 0 simple enabled 0 1 ∷ [])) (report (endedRecord 1 0x00 2 ∷ []))
     ∷ enters (command 1 headOfQueue 0 3) (table (header 0x00 2 0 2) quiet (task 0 simple enabled 0 1 ∷ task 1 headOfQueue enabled 0 3 ∷ []))
-    ∷ name (turn 1 3)
-    ∷ does (completion 1 0x00 3) (line 0 0 0 0 0 1) (table (header 0x00 1 0 3) quiet (task 0 simple enabled 0 1 ∷ [])) (report (ended 1 0x00 3 ∷ []))
+    ∷ name (namesTask 1 3)
+    ∷ does (completion 1 0x00 3) (answerLine 0 0 0 0 0 1) (table (header 0x00 1 0 3) quiet (task 0 simple enabled 0 1 ∷ [])) (report (endedRecord 1 0x00 3 ∷ []))
     ∷ enters (command 1 headOfQueue 0 4) (table (header 0x00 2 0 3) quiet (task 0 simple enabled 0 1 ∷ task 1 headOfQueue enabled 0 4 ∷ []))
-    ∷ name (turn 1 4)
-    ∷ does (completion 1 0x00 4) (line 0 0 0 0 0 1) (table (header 0x00 1 0 4) quiet (task 0 simple enabled 0 1 ∷ [])) (report (ended 1 0x00 4 ∷ []))
+    ∷ name (namesTask 1 4)
+    ∷ does (completion 1 0x00 4) (answerLine 0 0 0 0 0 1) (table (header 0x00 1 0 4) quiet (task 0 simple enabled 0 1 ∷ [])) (report (endedRecord 1 0x00 4 ∷ []))
     ∷ enters (command 1 headOfQueue 0 5) (table (header 0x00 2 0 4) quiet (task 0 simple enabled 0 1 ∷ task 1 headOfQueue enabled 0 5 ∷ []))
-    ∷ name (turn 0 1)
-    ∷ does (completion 0 0x00 1) (line 0 0 0 0 0 1)
-    (table (header 0x00 1 0 0) quiet (task 1 headOfQueue enabled 0 5 ∷ [])) (report (ended 0 0x00 1 ∷ []))
-    ∷ name (turn 1 5)
+    ∷ name (namesTask 0 1)
+    ∷ does (completion 0 0x00 1) (answerLine 0 0 0 0 0 1)
+    (table (header 0x00 1 0 0) quiet (task 1 headOfQueue enabled 0 5 ∷ [])) (report (endedRecord 0 0x00 1 ∷ []))
+    ∷ name (namesTask 1 5)
     ∷ [])
 
 -- "or no SIMPLE or ORDERED task is enabled": at run 4 the HEAD OF QUEUE task has the turn, for 0.1 S behind it is dormant; "the smaller of
@@ -33,40 +33,40 @@ caseK =
 abbrev pub runStaysFour : Case
 runStaysFour =
     from (table (header 0x00 2 0 4) quiet (task 1 headOfQueue enabled 0 1 ∷ task 0 simple dormant 0 1 ∷ []))
-    (name (turn 1 1)
-    ∷ does (completion 1 0x00 1) (line 0 0 0 0 0 1) (table (header 0x00 1 0 4) quiet (task 0 simple enabled 0 1 ∷ [])) (report (ended 1 0x00 1 ∷ []))
+    (name (namesTask 1 1)
+    ∷ does (completion 1 0x00 1) (answerLine 0 0 0 0 0 1) (table (header 0x00 1 0 4) quiet (task 0 simple enabled 0 1 ∷ [])) (report (endedRecord 1 0x00 1 ∷ []))
     ∷ [])
 
 -- "to 0 if SIMPLE or ORDERED": an ORDERED task's turn
 abbrev pub orderedTurn : Case
 orderedTurn =
     from (table (header 0x00 1 0 3) quiet (task 0 ordered enabled 0 1 ∷ []))
-    (name (turn 0 1)
-    ∷ does (completion 0 0x00 1) (line 0 0 0 0 0 1) (table (header 0x00 0 0 0) quiet []) (report (ended 0 0x00 1 ∷ []))
+    (name (namesTask 0 1)
+    ∷ does (completion 0 0x00 1) (answerLine 0 0 0 0 0 1) (table (header 0x00 0 0 0) quiet []) (report (endedRecord 0 0x00 1 ∷ []))
     ∷ [])
 
 -- "Other completions .. leave it.": 1.1 H is enabled and not named
 abbrev pub headOutOfTurn : Case
 headOutOfTurn =
     from (table (header 0x00 2 0 1) quiet (task 0 headOfQueue enabled 0 1 ∷ task 1 headOfQueue enabled 0 1 ∷ []))
-    (name (turn 0 1)
-    ∷ does (completion 1 0x00 1) (line 0 0 0 0 0 1)
-    (table (header 0x00 1 0 1) quiet (task 0 headOfQueue enabled 0 1 ∷ [])) (report (ended 1 0x00 1 ∷ []))
+    (name (namesTask 0 1)
+    ∷ does (completion 1 0x00 1) (answerLine 0 0 0 0 0 1)
+    (table (header 0x00 1 0 1) quiet (task 0 headOfQueue enabled 0 1 ∷ [])) (report (endedRecord 1 0x00 1 ∷ []))
     ∷ [])
 
 -- DECISIONS, "Turn and run": "the CHECK CONDITION that sets up an ACA is a turn and sets run"
 abbrev pub failedTurn : Case
 failedTurn =
     from (table (header 0x00 2 0 0) quiet (task 1 headOfQueue enabled 1 1 ∷ task 0 simple dormant 0 1 ∷ []))
-    (name (turn 1 1)
-    ∷ does (completion 1 0x02 1) (line 0 0 0 0 0 1) (table (header 0x00 1 2 1) quiet (task 0 simple dormant 0 1 ∷ [])) (report (ended 1 0x02 1 ∷ []))
+    (name (namesTask 1 1)
+    ∷ does (completion 1 0x02 1) (answerLine 0 0 0 0 0 1) (table (header 0x00 1 2 1) quiet (task 0 simple dormant 0 1 ∷ [])) (report (endedRecord 1 0x02 1 ∷ []))
     ∷ [])
 
 -- "With ACA: the ACA task, else nothing.": not the blocked HEAD OF QUEUE task
 abbrev pub turnInAca : Case
 turnInAca =
     from (table (header 0x00 2 1 0) quiet (task 1 headOfQueue blocked 0 1 ∷ task 0 aca enabled 0 9 ∷ []))
-    (name (turn 0 9)
+    (name (namesTask 0 9)
     ∷ lend (table (header 0x00 1 1 0) quiet (task 1 headOfQueue blocked 0 1 ∷ []))
     ∷ name nothing
     ∷ [])

@@ -5,12 +5,8 @@ use Rattle.rules.specs.Types.{Header}
 use Rattle.dedakhumi.proofs.apply.carry_out.Statement.{statement}
 use Rattle.dedakhumi.proofs.apply.carry_out.Tie as tie
 
-pub carry-out-spec : {M : Type 1} → statement M
-carry-out-spec =
-    tie.close
-    (tie.spec
-    (λ c. search needs) (λ c κs. search needs) (λ c κs. search needs) (λ c. search needs) (λ c. search needs)
-    (λ c κs.
+change-requires : tie.Need-change-requires
+change-requires c κs =
     let start = c .before .before .before .before .before .before .before .before in
     let r = c .before .before .before .before .r2 in
     record {
@@ -20,9 +16,10 @@ carry-out-spec =
       aca = ap (λ (h : Header). h .aca) (start .pre .2);
       lasts = rw (r .given .1) at (start .pre .4);
       well = rw (r .given .1) at (start .pre .3);
-    })
-    (λ c. search needs) (λ c. search needs)
-    (λ c.
+    }
+
+returns : tie.Need-returns
+returns c =
     let zero = c .before .before in
     let r = zero .before .before .before .before in
     let start = r .before .before .before .before in
@@ -33,9 +30,17 @@ carry-out-spec =
       ended = refl;
       table = refl;
       report = (rw (zero .before .writes-report .ensures) at (zero .zero-if .ensures)) ∙ zeroed (r .r .given .0 .0) report (start .pre .1);
-    }))
-    (λ c. search needs) (λ c. search needs)
-    (λ c.
+    })
+
+returns-2 : tie.Need-returns-2
+returns-2 c =
     let change = c .before .before .before .before .change .ensures in
     let r = c .before .before .before .before .before .before .before .before .before .r2 in
-    rw (r .given .1) (record { answer = refl; ended = change .ended; table = change .table; report = change .report })))
+    rw (r .given .1) (record { answer = refl; ended = change .ended; table = change .table; report = change .report })
+
+pub carry-out-spec : {M : Type 1} → statement M
+carry-out-spec =
+    tie.close
+    (tie.spec
+    (λ c. search needs) (λ c κs. search needs) (λ c κs. search needs) (λ c. search needs) (λ c. search needs) change-requires
+    (λ c. search needs) (λ c. search needs) returns (λ c. search needs) (λ c. search needs) returns-2)

@@ -10,15 +10,13 @@ use Rattle.ruling.proofs.Decided.{good-few, header-read, ruling-read}
 use Rattle.dedakhumi.proofs.apply.on_event.Statement.{statement}
 use Rattle.dedakhumi.proofs.apply.on_event.Tie as tie
 
-pub on-event-spec : {M : Type 1} → statement M
-on-event-spec =
-    tie.close
-    (tie.spec
-    (λ c κs.
+get-untagged-requires : tie.Need-get-untagged-requires
+get-untagged-requires c κs =
     let start = c .before .before .before in
-    omega (arith, table-tested (start .args .t .now) (start .pre .0) .long))
-    (λ c κs. search needs)
-    (λ c κs.
+    omega (arith, table-tested (start .args .t .now) (start .pre .0) .long)
+
+rule-requires : tie.Need-rule-requires
+rule-requires c κs =
     let read = c .before in
     let got = read .before .get-untagged in
     let start = read .before .before .before .before .before in
@@ -26,8 +24,10 @@ on-event-spec =
       table-tested t (start .pre .0) .long,
       rw (header-read t (got .result) (read .header-from .result) (got .ensures) (read .header-from .ensures)) (good-few t (start .pre .0)),
       start .pre .2,
-    ))
-    (λ c κs.
+    )
+
+carry-out-requires : tie.Need-carry-out-requires
+carry-out-requires c κs =
     let rule = c .before .before in
     let read = rule .before .before in
     let got = read .before .get-untagged in
@@ -41,9 +41,10 @@ on-event-spec =
       rw (rule .rule .ensures, ruling-read t (read .header-from .result) (start .pre .0) h e (start .pre .2))
           (from-tested (ruled (stateOf t) (ruling (stateOf t) e)) (tested-ruling (stateOf t) e (good-tested t (start .pre .0)))),
       rw (rule .rule .ensures, ruling-read t (read .header-from .result) (start .pre .0) h e (start .pre .2)) (what-lasts (stateOf t) e),
-    ))
-    (λ c. search needs) (λ c. search needs)
-    (λ c.
+    )
+
+returns : tie.Need-returns
+returns c =
     let carry = c .before .before .before .before in
     let rule = carry .before .before .before in
     let read = rule .before .before in
@@ -51,4 +52,10 @@ on-event-spec =
     let start = read .before .before .before .before .before in
     let t = start .args .t .now in
     let h = header-read t (got .result) (read .header-from .result) (got .ensures) (read .header-from .ensures) in
-    rw (rule .rule .ensures, ruling-read t (read .header-from .result) (start .pre .0) h (start .args .e) (start .pre .2)) at (carry .carry-out .ensures)))
+    rw (rule .rule .ensures, ruling-read t (read .header-from .result) (start .pre .0) h (start .args .e) (start .pre .2)) at (carry .carry-out .ensures)
+
+pub on-event-spec : {M : Type 1} → statement M
+on-event-spec =
+    tie.close
+    (tie.spec
+    get-untagged-requires (λ c κs. search needs) rule-requires carry-out-requires (λ c. search needs) (λ c. search needs) returns)
