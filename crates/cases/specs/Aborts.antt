@@ -39,7 +39,8 @@ clearTaskSet =
     (table (header 0x00 4 0 1) (bits 0 0 1 1 0 0 0 0)
     (task 0 simple enabled 0 1 ∷ task 1 simple enabled 0 1 ∷ task 2 headOfQueue enabled 0 1 ∷ task 1 simple dormant 0 2 ∷ []))
     (does (management 0 3 0) (answerLine 0 0 0 0 0 4)
-    (table (header 0x00 0 0 1) (bits 0 0x10 0x11 1 0 0 0 0) []) (report (endedRecord 0 0xFF 1 ∷ endedRecord 1 0xFF 1 ∷ endedRecord 2 0xFF 1 ∷ endedRecord 1 0xFF 2 ∷ []))
+    (table (header 0x00 0 0 1) (bits 0 0x10 0x11 1 0 0 0 0) [])
+    (report (endedRecord 0 0xFF 1 ∷ endedRecord 1 0xFF 1 ∷ endedRecord 2 0xFF 1 ∷ endedRecord 1 0xFF 2 ∷ []))
     ∷ [])
 
 -- "tasks of a nexus other than the causing one get TASK ABORTED 40h if TAS is 1", and then no bit 4

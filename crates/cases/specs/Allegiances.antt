@@ -81,10 +81,12 @@ abbrev pub clearTaskSetInAca : Case
 clearTaskSetInAca =
     from acaTask0
     (does (management 0 3 0) (answerLine 0 0 0 0 0 4)
-    (table (header 0x00 0 1 3) (bits 0 0x10 0x10 0x10 0 0 0 0) []) (report (endedRecord 1 0xFF 1 ∷ endedRecord 2 0xFF 1 ∷ endedRecord 3 0xFF 1 ∷ endedRecord 0 0xFF 9 ∷ []))
+    (table (header 0x00 0 1 3) (bits 0 0x10 0x10 0x10 0 0 0 0) [])
+    (report (endedRecord 1 0xFF 1 ∷ endedRecord 2 0xFF 1 ∷ endedRecord 3 0xFF 1 ∷ endedRecord 0 0xFF 9 ∷ []))
     ∷ lend acaTask0
     ∷ does (management 2 3 0) (answerLine 0 0 0 0 0 4)
-    (table (header 0x00 0 1 3) (bits 0x10 0x10 0 0x10 0 0 0 0) []) (report (endedRecord 1 0xFF 1 ∷ endedRecord 2 0xFF 1 ∷ endedRecord 3 0xFF 1 ∷ endedRecord 0 0xFF 9 ∷ []))
+    (table (header 0x00 0 1 3) (bits 0x10 0x10 0 0x10 0 0 0 0) [])
+    (report (endedRecord 1 0xFF 1 ∷ endedRecord 2 0xFF 1 ∷ endedRecord 3 0xFF 1 ∷ endedRecord 0 0xFF 9 ∷ []))
     ∷ [])
 
 -- "CLEAR ACA: without ACA done, no change". DECISIONS: "from any nexus, with a report of zeros"

@@ -12,7 +12,8 @@ dormantAsAcaBegins =
     from (clear 0x00)
     (enters (command 0 ordered 1 1) (table (header 0x00 1 0 0) quiet (task 0 ordered enabled 1 1 ∷ []))
     ∷ enters (command 1 simple 0 1) (table (header 0x00 2 0 0) quiet (task 0 ordered enabled 1 1 ∷ task 1 simple dormant 0 1 ∷ []))
-    ∷ does (completion 0 0x02 1) (answerLine 0 0 0 0 0 1) (table (header 0x00 1 1 0) quiet (task 1 simple dormant 0 1 ∷ [])) (report (endedRecord 0 0x02 1 ∷ []))
+    ∷ does (completion 0 0x02 1) (answerLine 0 0 0 0 0 1) (table (header 0x00 1 1 0) quiet (task 1 simple dormant 0 1 ∷ []))
+    (report (endedRecord 0 0x02 1 ∷ []))
     ∷ name nothing
     ∷ refuses (completion 1 0x00 1) 6
     ∷ [])

@@ -29,7 +29,8 @@ caseB =
     (table (header 0x00 3 0 0) quiet (task 0 simple enabled 0 1 ∷ task 1 ordered dormant 0 1 ∷ task 0 simple dormant 0 2 ∷ []))
     ∷ does (completion 0 0x00 1) (answerLine 0 0 0 0 0 1)
     (table (header 0x00 2 0 0) quiet (task 1 ordered enabled 0 1 ∷ task 0 simple dormant 0 2 ∷ [])) (report (endedRecord 0 0x00 1 ∷ []))
-    ∷ does (completion 1 0x00 1) (answerLine 0 0 0 0 0 1) (table (header 0x00 1 0 0) quiet (task 0 simple enabled 0 2 ∷ [])) (report (endedRecord 1 0x00 1 ∷ []))
+    ∷ does (completion 1 0x00 1) (answerLine 0 0 0 0 0 1) (table (header 0x00 1 0 0) quiet (task 0 simple enabled 0 2 ∷ []))
+    (report (endedRecord 1 0x00 1 ∷ []))
     ∷ [])
 
 abbrev tasksOfC : List (List ℕ)
@@ -58,7 +59,8 @@ abbrev intoAca : List Move
 intoAca =
     enters (command 0 simple 1 1) (table (header 0x00 1 0 0) quiet (task 0 simple enabled 1 1 ∷ []))
     ∷ enters (command 1 ordered 0 1) (table (header 0x00 2 0 0) quiet (task 0 simple enabled 1 1 ∷ task 1 ordered dormant 0 1 ∷ []))
-    ∷ does (completion 0 0x02 1) (answerLine 0 0 0 0 0 1) (table (header 0x00 1 1 0) quiet (task 1 ordered dormant 0 1 ∷ [])) (report (endedRecord 0 0x02 1 ∷ []))
+    ∷ does (completion 0 0x02 1) (answerLine 0 0 0 0 0 1) (table (header 0x00 1 1 0) quiet (task 1 ordered dormant 0 1 ∷ []))
+    (report (endedRecord 0 0x02 1 ∷ []))
     ∷ []
 
 -- "D*: 0.1 S (NACA 1), 1.1 O; 0.1 ends 02h: ACA byte 1, 1.1 dormant. CLEAR ACA from 1: 8. From 0: 1.1 enabled."
@@ -115,7 +117,8 @@ caseH =
     from (clear 0x00)
     (enters (command 0 simple 0 1) (table (header 0x00 1 0 0) quiet (task 0 simple enabled 0 1 ∷ []))
     ∷ enters (command 0 simple 0 2) (table (header 0x00 2 0 0) quiet (task 0 simple enabled 0 1 ∷ task 0 simple enabled 0 2 ∷ []))
-    ∷ does (command 0 simple 0 1) (answerLine 7 0x02 0x0B 0x4E 0x00 2) (table (header 0x00 0 0 0) quiet []) (report (endedRecord 0 0xFF 1 ∷ endedRecord 0 0xFF 2 ∷ []))
+    ∷ does (command 0 simple 0 1) (answerLine 7 0x02 0x0B 0x4E 0x00 2) (table (header 0x00 0 0 0) quiet [])
+    (report (endedRecord 0 0xFF 1 ∷ endedRecord 0 0xFF 2 ∷ []))
     ∷ [])
 
 -- "I*: completing a dormant task 6; an absent one 5; nexus 8 gives 4, 7 is taken; attribute 3, or 4 without ACA, 5h/49h/00h."

@@ -31,7 +31,8 @@ hardReset =
 abbrev pub powerOn : Case
 powerOn =
     from beforeReset
-    (does (condition 0 1) (answerLine 0 0 0 0 0 2) (table (header 0x07 0 0 0) (bits 1 1 1 1 1 1 1 1) []) (report (endedRecord 1 0xFF 1 ∷ endedRecord 3 0xFF 9 ∷ []))
+    (does (condition 0 1) (answerLine 0 0 0 0 0 2) (table (header 0x07 0 0 0) (bits 1 1 1 1 1 1 1 1) [])
+    (report (endedRecord 1 0xFF 1 ∷ endedRecord 3 0xFF 9 ∷ []))
     ∷ start 0x07 0 same
     ∷ [])
 

@@ -11,16 +11,20 @@ caseK =
     from (table (header 0x00 1 0 0) quiet (task 0 simple enabled 0 1 ∷ []))
     (enters (command 1 headOfQueue 0 1) (table (header 0x00 2 0 0) quiet (task 0 simple enabled 0 1 ∷ task 1 headOfQueue enabled 0 1 ∷ []))
     ∷ name (namesTask 1 1)
-    ∷ does (completion 1 0x00 1) (answerLine 0 0 0 0 0 1) (table (header 0x00 1 0 1) quiet (task 0 simple enabled 0 1 ∷ [])) (report (endedRecord 1 0x00 1 ∷ []))
+    ∷ does (completion 1 0x00 1) (answerLine 0 0 0 0 0 1) (table (header 0x00 1 0 1) quiet (task 0 simple enabled 0 1 ∷ []))
+    (report (endedRecord 1 0x00 1 ∷ []))
     ∷ enters (command 1 headOfQueue 0 2) (table (header 0x00 2 0 1) quiet (task 0 simple enabled 0 1 ∷ task 1 headOfQueue enabled 0 2 ∷ []))
     ∷ name (namesTask 1 2)
-    ∷ does (completion 1 0x00 2) (answerLine 0 0 0 0 0 1) (table (header 0x00 1 0 2) quiet (task 0 simple enabled 0 1 ∷ [])) (report (endedRecord 1 0x00 2 ∷ []))
+    ∷ does (completion 1 0x00 2) (answerLine 0 0 0 0 0 1) (table (header 0x00 1 0 2) quiet (task 0 simple enabled 0 1 ∷ []))
+    (report (endedRecord 1 0x00 2 ∷ []))
     ∷ enters (command 1 headOfQueue 0 3) (table (header 0x00 2 0 2) quiet (task 0 simple enabled 0 1 ∷ task 1 headOfQueue enabled 0 3 ∷ []))
     ∷ name (namesTask 1 3)
-    ∷ does (completion 1 0x00 3) (answerLine 0 0 0 0 0 1) (table (header 0x00 1 0 3) quiet (task 0 simple enabled 0 1 ∷ [])) (report (endedRecord 1 0x00 3 ∷ []))
+    ∷ does (completion 1 0x00 3) (answerLine 0 0 0 0 0 1) (table (header 0x00 1 0 3) quiet (task 0 simple enabled 0 1 ∷ []))
+    (report (endedRecord 1 0x00 3 ∷ []))
     ∷ enters (command 1 headOfQueue 0 4) (table (header 0x00 2 0 3) quiet (task 0 simple enabled 0 1 ∷ task 1 headOfQueue enabled 0 4 ∷ []))
     ∷ name (namesTask 1 4)
-    ∷ does (completion 1 0x00 4) (answerLine 0 0 0 0 0 1) (table (header 0x00 1 0 4) quiet (task 0 simple enabled 0 1 ∷ [])) (report (endedRecord 1 0x00 4 ∷ []))
+    ∷ does (completion 1 0x00 4) (answerLine 0 0 0 0 0 1) (table (header 0x00 1 0 4) quiet (task 0 simple enabled 0 1 ∷ []))
+    (report (endedRecord 1 0x00 4 ∷ []))
     ∷ enters (command 1 headOfQueue 0 5) (table (header 0x00 2 0 4) quiet (task 0 simple enabled 0 1 ∷ task 1 headOfQueue enabled 0 5 ∷ []))
     ∷ name (namesTask 0 1)
     ∷ does (completion 0 0x00 1) (answerLine 0 0 0 0 0 1)
@@ -34,7 +38,8 @@ abbrev pub runStaysFour : Case
 runStaysFour =
     from (table (header 0x00 2 0 4) quiet (task 1 headOfQueue enabled 0 1 ∷ task 0 simple dormant 0 1 ∷ []))
     (name (namesTask 1 1)
-    ∷ does (completion 1 0x00 1) (answerLine 0 0 0 0 0 1) (table (header 0x00 1 0 4) quiet (task 0 simple enabled 0 1 ∷ [])) (report (endedRecord 1 0x00 1 ∷ []))
+    ∷ does (completion 1 0x00 1) (answerLine 0 0 0 0 0 1) (table (header 0x00 1 0 4) quiet (task 0 simple enabled 0 1 ∷ []))
+    (report (endedRecord 1 0x00 1 ∷ []))
     ∷ [])
 
 -- "to 0 if SIMPLE or ORDERED": an ORDERED task's turn
@@ -59,7 +64,8 @@ abbrev pub failedTurn : Case
 failedTurn =
     from (table (header 0x00 2 0 0) quiet (task 1 headOfQueue enabled 1 1 ∷ task 0 simple dormant 0 1 ∷ []))
     (name (namesTask 1 1)
-    ∷ does (completion 1 0x02 1) (answerLine 0 0 0 0 0 1) (table (header 0x00 1 2 1) quiet (task 0 simple dormant 0 1 ∷ [])) (report (endedRecord 1 0x02 1 ∷ []))
+    ∷ does (completion 1 0x02 1) (answerLine 0 0 0 0 0 1) (table (header 0x00 1 2 1) quiet (task 0 simple dormant 0 1 ∷ []))
+    (report (endedRecord 1 0x02 1 ∷ []))
     ∷ [])
 
 -- "With ACA: the ACA task, else nothing.": not the blocked HEAD OF QUEUE task
