@@ -5,7 +5,7 @@
 --   tableBy t ms        := the table after the calls ms
 --   heard m             := the event of a call, as a list of one or none: none where apply answers 2 or 3, and the rules are not asked
 --   eventsIn ms         := the events of ms that the rules are asked
---   commandTask o            := the task of a COMMAND, as a list of one or none: none of any other event
+--   commandTask o       := the task of a COMMAND, as a list of one or none: none of any other event
 --   opened p            := a started table under the policy p
 --   expected s m        := what the rules say of a call, in the state s
 use Prim.Native.Nat.{ℕ}

@@ -4,7 +4,7 @@
 --   kindOf e, eventName e  := the kind of an event record; its nexus and tag
 --   recordName r, namesFrom n l  := nexus and tag of a task or ended record; those of the first n such records of l
 --   taskAt t i, attributeAt t i  := the task record at place i of the table t, the oldest at 0; its attribute byte
---   pendingByte t i        := the pending byte of nexus i in the table t
+--   pendingByte t i      := the pending byte of nexus i in the table t
 --   presentIn t          := nexus and tag of each task of the table t, oldest first
 --   isAccepted t m       := the call brings a COMMAND, and apply answers 0
 --   listed t m, listedBy t ms  := nexus and tag of each ended record that the call reports, that the calls ms report

@@ -3,7 +3,7 @@
 --   usedFit n aca o l   := the first n task records are good, and their states fit behind o
 --   keyOf t             := nexus and tag as one number
 --   keysFrom n l        := the keys of the first n task records
---   keysApart ks            := no two keys are the same
+--   keysApart ks        := no two keys are the same
 --   spareKey            := a number that is no task's key, whatever its bytes: nexus 256, tag 0
 --   Spared ks n         := the first n of the 68 are tasks' keys, the others spare
 --   recordsFit n aca b  := the records behind a header that says n tasks and aca are good, their states fit, and no two share a name

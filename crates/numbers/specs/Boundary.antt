@@ -1,10 +1,10 @@
 -- What the C port driver is told: document 01's numbers (operations/specs/AnswerNumbers) in the layout of include/dedakhumi.h.
 --
---   numbersOf a n    := the answer a with n ended records
---   answered o       := what apply returns
---   turnInNumbers a u       := the answer a with the turn u; nexus and tag are 0 where none is found
---   turnFor n        := what name returns
---   startNumber t p  := what start returns
+--   numbersOf a n     := the answer a with n ended records
+--   answered o        := what apply returns
+--   turnInNumbers a u := the answer a with the turn u; nexus and tag are 0 where none is found
+--   turnFor n         := what name returns
+--   startNumber t p   := what start returns
 --   StartsAs, AppliesAs, NamesAs   := what the three functions promise: the result, and every byte of the buffers that they are lent to write
 use Prim.Native.Nat.{ℕ}
 use mathlib.Core.Path.{_≡_}

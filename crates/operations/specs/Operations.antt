@@ -3,7 +3,7 @@
 --   Outcome                := answer, ended count, and both buffers afterwards
 --   outcome t r e          := apply the event bytes e to the table t with the report buffer r
 --   named t                := name the task whose turn it is
---   Started, started t p   := startedWith a fresh table in the buffer t under the policy byte p
+--   Started, started t p   := start a fresh table in the buffer t under the policy byte p
 --   AppliedAs, StartedAs   := what a result and the buffers at exit have to be
 use Prim.Native.Nat.{ℕ}
 use mathlib.Core.Path.{_≡_}

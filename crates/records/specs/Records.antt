@@ -16,7 +16,8 @@ use Rattle.octets.specs.Sizes.{policyOffset, countOffset, acaOffset, runOffset,
 use Rattle.values.specs.Headers.{mostRun}
 use Rattle.rules.specs.Tasks.{places, nexuses}
 use Rattle.rules.specs.Types.{Task, Header, Pending, Ended}
-use Rattle.records.specs.Numbers.{flag, tagIn, tagBytes, attributeNumber, attributeFits, attributeFrom, stateNumber, stateFits, stateFrom, acaNumber, acaFrom, policyNumber, policyFits, policyFrom, pendingNumber, pendingFits, pendingFrom}
+use Rattle.records.specs.Numbers.{flag, tagIn, tagBytes, attributeNumber, attributeFits, attributeFrom, stateNumber, stateFits, stateFrom}
+use Rattle.records.specs.Numbers.{acaNumber, acaFrom, policyNumber, policyFits, policyFrom, pendingNumber, pendingFits, pendingFrom}
 
 -- "header | 54 48 | 01; policy; task count 0 to 64; ACA: 0 or 1 + faulted nexus; run 0 to 4; 0"
 abbrev pub headerBytes : Header → List ℕ

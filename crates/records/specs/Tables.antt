@@ -24,7 +24,8 @@ use Rattle.octets.specs.Sizes.{countOffset}
 use Rattle.rules.specs.Tasks.{places, nexuses}
 use Rattle.rules.specs.Rulings.{State}
 use Rattle.rules.specs.Well.{WellFormed, wellFormed}
-use Rattle.records.specs.Records.{headSize, nexusSize, taskSize, endedSize, headerBytes, headerFrom, headerFits, nexusBytes, pendingIn, nexusFits, taskBytes, taskFrom, taskFits, unusedBytes, unusedFits, endedBytes}
+use Rattle.records.specs.Records.{headSize, nexusSize, taskSize, endedSize, headerBytes, headerFrom, headerFits, nexusBytes, pendingIn}
+use Rattle.records.specs.Records.{nexusFits, taskBytes, taskFrom, taskFits, unusedBytes, unusedFits, endedBytes}
 use Rattle.rules.specs.Types.{Task, Pending, Ended}
 
 abbrev pub Bytes : List ℕ → Type 0

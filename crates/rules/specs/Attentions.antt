@@ -9,7 +9,7 @@
 --   passesAca a c aca          := check 2 lets the command c pass, by the allegiance and whether an ACA task is there
 --   reaches3 s c, reportedBy s c  := checks 1 and 2 let the command c pass; what check 3 reports to its nexus
 --   clearedBy s n i            := what nexus i gets where all tasks end for nexus n
---   completes s n g, endsOthers q  := a completion of that nexus and tag is completes; QERR ends tasks of other nexuses
+--   completes s n g, endsOthers q  := a completion of that nexus and tag is accepted; QERR ends tasks of other nexuses
 --   byFunction s n f i, byHappening c i, caused s e i  := what reaches nexus i by a function from nexus n, by a condition, by an event
 --   attention s e i            := what the event e brings to nexus i in the state s
 use Prim.Native.Nat.{ℕ}

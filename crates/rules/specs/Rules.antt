@@ -23,7 +23,8 @@ use mathlib.Core.List.{List, [], _∷_}
 use mathlib.Core.Option.{Option, none, some}
 use lib.Dec.{eqb, ltb, leb}
 use Rattle.laws.specs.Lists.{any, first}
-use Rattle.rules.specs.Types.{Attribute, TaskState, Task, Asked, Entry, Finish, Function, Happening, Event, Qerr, Allegiance, Header, Pending, Top, Sense, Ended, Sweep, Notice, Joins, Change, Answer, Ruling}
+use Rattle.rules.specs.Types.{Attribute, TaskState, Task, Asked, Entry, Finish, Function, Happening, Event, Qerr, Allegiance, Header, Pending}
+use Rattle.rules.specs.Types.{Top, Sense, Ended, Sweep, Notice, Joins, Change, Answer, Ruling}
 use Rattle.values.specs.Headers.{withAca, withRun, runNext}
 use Rattle.rules.specs.Tasks.{places, nexuses, isAca, isEnabled, acaTask, same, isNamed}
 use Rattle.rules.specs.Bits.{top, senseFor}

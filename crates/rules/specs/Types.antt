@@ -5,7 +5,8 @@ pub use Rattle.values.specs.declared.Task.{Task}
 pub use Rattle.values.specs.declared.Asked.{Asked, the-variants.Known, the-variants.NoneOfFour}
 pub use Rattle.values.specs.declared.Entry.{Entry}
 pub use Rattle.values.specs.declared.Finish.{Finish, the-variants.Good, the-variants.CheckCondition}
-pub use Rattle.values.specs.declared.Function.{Function, the-variants.AbortTask, the-variants.AbortTaskSet, the-variants.ClearTaskSet, the-variants.ClearAca, the-variants.LogicalUnitReset, the-variants.Unknown}
+pub use Rattle.values.specs.declared.Function.{Function, the-variants.AbortTask, the-variants.AbortTaskSet, the-variants.ClearTaskSet}
+pub use Rattle.values.specs.declared.Function.{the-variants.ClearAca, the-variants.LogicalUnitReset, the-variants.Unknown}
 pub use Rattle.values.specs.declared.Happening.{Happening, the-variants.PowerOn, the-variants.HardReset, the-variants.NexusLoss}
 pub use Rattle.values.specs.declared.Event.{Event, the-variants.Command, the-variants.Completion, the-variants.Management, the-variants.Condition}
 pub use Rattle.values.specs.declared.Qerr.{Qerr, the-variants.EndNone, the-variants.EndAll, the-variants.EndNexus}
@@ -16,11 +17,15 @@ pub use Rattle.values.specs.declared.Pending.{Pending}
 pub use Rattle.values.specs.declared.Bit.{Bit, the-variants.PowerBit, the-variants.HardBit, the-variants.UnitBit, the-variants.LossBit, the-variants.ClearedBit}
 pub use Rattle.values.specs.declared.Top.{Top, the-variants.NoBit, the-variants.Highest}
 pub use Rattle.values.specs.declared.Sense.{Sense}
-pub use Rattle.values.specs.declared.Answer.{Answer, the-variants.Done, the-variants.BadTable, the-variants.BadReport, the-variants.BadEvent, the-variants.NexusAboveSeven, the-variants.NoSuchTask, the-variants.NotEnabled, the-variants.EndedAtEntry, the-variants.Rejected, the-variants.BadPolicy}
+pub use Rattle.values.specs.declared.Answer.{Answer, the-variants.Done, the-variants.BadTable, the-variants.BadReport, the-variants.BadEvent}
+pub use Rattle.values.specs.declared.Answer.{the-variants.NexusAboveSeven, the-variants.NoSuchTask, the-variants.NotEnabled}
+pub use Rattle.values.specs.declared.Answer.{the-variants.EndedAtEntry, the-variants.Rejected, the-variants.BadPolicy}
 pub use Rattle.values.specs.declared.Fate.{Fate, the-variants.Stays, the-variants.Ends}
 pub use Rattle.values.specs.declared.Ended.{Ended}
-pub use Rattle.values.specs.declared.Sweep.{Sweep, the-variants.Nobody, the-variants.OneTask, the-variants.NexusTasks, the-variants.AcaTask, the-variants.AllTasks, the-variants.ClearedBy, the-variants.FailedTask}
-pub use Rattle.values.specs.declared.Notice.{Notice, the-variants.Quiet, the-variants.Reported, the-variants.OthersLost, the-variants.NexusLost, the-variants.UnitWasReset, the-variants.HardWasReset, the-variants.PowerCameOn}
+pub use Rattle.values.specs.declared.Sweep.{Sweep, the-variants.Nobody, the-variants.OneTask, the-variants.NexusTasks, the-variants.AcaTask}
+pub use Rattle.values.specs.declared.Sweep.{the-variants.AllTasks, the-variants.ClearedBy, the-variants.FailedTask}
+pub use Rattle.values.specs.declared.Notice.{Notice, the-variants.Quiet, the-variants.Reported, the-variants.OthersLost, the-variants.NexusLost}
+pub use Rattle.values.specs.declared.Notice.{the-variants.UnitWasReset, the-variants.HardWasReset, the-variants.PowerCameOn}
 pub use Rattle.values.specs.declared.Joins.{Joins, the-variants.NoTask, the-variants.NewTask}
 pub use Rattle.values.specs.declared.Change.{Change}
 pub use Rattle.values.specs.declared.Ruling.{Ruling, the-variants.Keeps, the-variants.Changes}
