@@ -20,11 +20,6 @@ pub fn ends_nobody(w: Sweep) -> bool
 {
     match w {
         Sweep::Nobody => true,
-        Sweep::OneTask(_, _, _) => false,
-        Sweep::NexusTasks(_) => false,
-        Sweep::AcaTask => false,
-        Sweep::AllTasks => false,
-        Sweep::ClearedBy(_, _) => false,
-        Sweep::FailedTask(_, _, _) => false,
+        _ => false,
     }
 }
