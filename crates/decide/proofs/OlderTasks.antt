@@ -1,10 +1,9 @@
 -- What code computes task by task is what the rules say of the whole list.
 use Prim.Native.Nat.{ℕ}
-use mathlib.Core.Bool.{Bool, true, false, cond, _||_, _&&_, not}
-use mathlib.Core.Path.{_≡_, refl, ap, sym, _∙_}
+use mathlib.Core.Bool.{Bool, false, _&&_, not}
+use mathlib.Core.Path.{_≡_, refl, ap, sym}
 use mathlib.Core.List.{List, [], _∷_}
-use mathlib.Core.Option.{Option, none, some}
-use lib.Dec.{eqb, ltb}
+use lib.Dec.{eqb}
 use Rattle.laws.specs.Lists.{any, isNil}
 use Rattle.rules.specs.Tasks.{holdsBack, eligible, enabledIf, withState, settleFrom}
 use Rattle.rules.specs.Well.{settledTask, heldTask, settled, held, statesFit}

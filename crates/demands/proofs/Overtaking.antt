@@ -12,6 +12,7 @@ use lib.Dec.{ltb}
 use Rattle.laws.specs.Lists.{any}
 use Rattle.laws.proofs.RecordsInLists.{record-byte, walked-at}
 use Rattle.laws.proofs.Bools.{and-false, or-false, not-both, split}
+use Rattle.octets.specs.Sizes.{acaOffset}
 use Rattle.rules.specs.Tasks.{nexuses, isPlain, same, enabledTask, enabledPlain, isNamed}
 use Rattle.rules.specs.Rulings.{State, turn}
 use Rattle.rules.specs.Rules.{nexusOf, answer}
@@ -164,12 +165,12 @@ module _ (t : List ℕ) (good : GoodTable t) where
       (sym turn-is)
       (done-by r f l (turn (stateOf t)) refl)
 
-  clear-is : getD t 5 0 ≡ 0 → (stateOf t) .header .aca ≡ Clear
+  clear-is : getD t acaOffset 0 ≡ 0 → (stateOf t) .header .aca ≡ Clear
   unfolding stateOf
   clear-is c = rw (record-byte headSize t 0 5 0 (omega arith), (let z : getD t (0 + 5) 0 ≡ 0 = c in z))
 
   -- without ACA a table with tasks names somebody
-  pub somebody-is-named : getD t 5 0 ≡ 0 → 1 ≤ countIn t → (turnFor (named t)) .found ≡ true
+  pub somebody-is-named : getD t acaOffset 0 ≡ 0 → 1 ≤ countIn t → (turnFor (named t)) .found ≡ true
   somebody-is-named c n = ap (λ (u : NamedTurn). u .found) turn-is ∙ go (turn (stateOf t)) refl
     where
       go : (u : Turn) → turn (stateOf t) ≡ u → (turnInNumbers Done u) .found ≡ true

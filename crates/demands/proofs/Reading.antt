@@ -5,6 +5,7 @@ use mathlib.Core.List.{List, [], _∷_, _++_, map}
 use native.Mathlib.Omega.{arith}
 use lib.ListN.{length, getD, drop}
 use Rattle.laws.specs.RecordsInLists.{joined}
+use Rattle.octets.specs.Sizes.{firstOffset}
 use Rattle.rules.specs.Rulings.{State, taskName, endedName}
 use Rattle.rules.specs.Rules.{attributeOf, newTask}
 use Rattle.rules.proofs.NewTasks.{new-task-attribute}
@@ -48,10 +49,10 @@ module _ (e : List ℕ) where
   event-reads (Readable (Condition h)) q = field 2 (event-fields e (Condition h) q)
 
   -- "4 ACA": only that byte lets a task in that has attribute ACA
-  pub aca-asked : (c : Entry) → eventOf e ≡ Readable (Command c) → (newTask c) .attribute ≡ Aca → getD e 4 0 ≡ 4
+  pub aca-asked : (c : Entry) → eventOf e ≡ Readable (Command c) → (newTask c) .attribute ≡ Aca → getD e firstOffset 0 ≡ 4
   aca-asked c q h = field 4 (event-fields e (Command c) q) ∙ go (c .asked) (sym (new-task-attribute c) ∙ h)
     where
-      go : (a : Asked) → attributeOf a ≡ Aca → askedNumber (getD e 4 0) a ≡ 4
+      go : (a : Asked) → attributeOf a ≡ Aca → askedNumber (getD e firstOffset 0) a ≡ 4
       go (Known t) z = ap attributeNumber z
       go NoneOfFour z = absurd (let y : _≡_ {A = ℕ} 0 1 = cc in omega arith)
 

@@ -6,6 +6,7 @@ use mathlib.Core.List.{List, [], _∷_, _++_, map}
 use native.Mathlib.Omega.{arith}
 use lib.ListN.{length, getD}
 use Rattle.laws.specs.Lists.{any}
+use Rattle.octets.specs.Sizes.{firstOffset}
 use Rattle.rules.specs.Rulings.{taskName, endedName, sameName}
 use Rattle.rules.specs.Rules.{newTask}
 use Rattle.rules.proofs.NewTasks.{new-task-name}
@@ -49,7 +50,7 @@ new-name m h x = event-reads (m .event) (Readable (Command (x .command))) (x .re
 
 waited :
     (p : Policy) (ms : List Call) (m : Call) (later : List Call) → isAccepted (tableBy (opened p) ms) m ≡ true
-    → (getD (m .event) 4 0 ≡ 4 → ⊥)
+    → (getD (m .event) firstOffset 0 ≡ 4 → ⊥)
     → turnsToWait (countIn (tableBy (opened p) ms)) ≤ turnsBy (tableBy (opened p) (ms ++ (m ∷ []))) later
     → isListed (eventName (m .event)) (listedBy (tableBy (opened p) (ms ++ (m ∷ []))) later) ≡ true
 waited p ms m later a n l =

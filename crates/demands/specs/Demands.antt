@@ -13,6 +13,7 @@ use mathlib.Core.List.{List, [], _∷_, _++_, map}
 use mathlib.Core.Logic.{_↔_, _⊎_}
 use mathlib.Core.Option.{some}
 use lib.ListN.{length, getD, replicate}
+use Rattle.octets.specs.Sizes.{firstOffset}
 use Rattle.rules.specs.Tasks.{nexuses}
 use Rattle.rules.specs.Rulings.{turn, taskName}
 use Rattle.rules.specs.Rules.{nexusOf}
@@ -137,6 +138,6 @@ turnsToWait k = 5 * (k + 1)
 abbrev pub Demand3 : Type 0
 Demand3 =
     (t : List ℕ) (b : ℕ) (ms : List Call) (m : Call) (later : List Call) → startNumber t b ≡ 0
-    → isAccepted (tableBy ((started t b) .table) ms) m ≡ true → (getD (m .event) 4 0 ≡ 4 → ⊥)
+    → isAccepted (tableBy ((started t b) .table) ms) m ≡ true → (getD (m .event) firstOffset 0 ≡ 4 → ⊥)
     → turnsToWait (countIn (tableBy ((started t b) .table) ms)) ≤ turnsBy (tableBy ((started t b) .table) (ms ++ (m ∷ []))) later
     → isListed (eventName (m .event)) (listedBy (tableBy ((started t b) .table) (ms ++ (m ∷ []))) later) ≡ true

@@ -24,10 +24,11 @@ use lib.Dec.{eqb}
 use lib.ListN.{getD, take, drop}
 use Rattle.laws.specs.Lists.{one-if, any}
 use Rattle.laws.specs.RecordsInLists.{recordAt}
+use Rattle.octets.specs.Sizes.{acaOffset, pendingOffset, kindOffset, senderOffset, nexusOffset, attributeOffset}
 use Rattle.rules.specs.Types.{Named}
 use Rattle.rules.specs.Tasks.{places}
 use Rattle.rules.specs.Rulings.{sameName}
-use Rattle.records.specs.Numbers.{tagFrom}
+use Rattle.records.specs.Numbers.{tagIn}
 use Rattle.records.specs.Records.{nexusSize, taskSize, marked}
 use Rattle.records.specs.Tables.{nexusesAt, countIn, tasksAt}
 use Rattle.operations.specs.Operations.{named}
@@ -43,14 +44,14 @@ told t m = answered (applied t m)
 
 -- "event | 54 56 | kind; nexus; first; second; tag"
 abbrev pub kindOf : List ℕ → ℕ
-kindOf e = getD e 2 0
+kindOf e = getD e kindOffset 0
 
 abbrev pub eventName : List ℕ → Named
-eventName e = record { nexus = getD e 3 0; tag = tagFrom (getD e 6 0) (getD e 7 0) }
+eventName e = record { nexus = getD e senderOffset 0; tag = tagIn e }
 
 -- "task | 54 54 | nexus; attribute; state; control; tag", "ended | 54 45 | nexus; status; 0 0; tag": at the same places
 abbrev pub recordName : List ℕ → Named
-recordName r = record { nexus = getD r 2 0; tag = tagFrom (getD r 6 0) (getD r 7 0) }
+recordName r = record { nexus = getD r nexusOffset 0; tag = tagIn r }
 
 abbrev pub namesFrom : ℕ → List ℕ → List Named
 namesFrom zero l = []
@@ -60,10 +61,10 @@ abbrev pub taskAt : List ℕ → ℕ → List ℕ
 taskAt t i = recordAt taskSize t (tasksAt + taskSize * i)
 
 abbrev pub attributeAt : List ℕ → ℕ → ℕ
-attributeAt t i = getD (taskAt t i) 3 0
+attributeAt t i = getD (taskAt t i) attributeOffset 0
 
 abbrev pub pendingByte : List ℕ → ℕ → ℕ
-pendingByte t i = getD (recordAt nexusSize t (nexusesAt + nexusSize * i)) 3 0
+pendingByte t i = getD (recordAt nexusSize t (nexusesAt + nexusSize * i)) pendingOffset 0
 
 -- "Used task records come first, oldest first."
 abbrev pub presentIn : List ℕ → List Named
@@ -99,7 +100,7 @@ isNamedBy u k = u .found && sameName (record { nexus = u .nexus; tag = u .tag })
 -- byte is 0 and name names that task, and apply answers 0
 unfoldable pub isTurnBy : List ℕ → Call → Bool
 isTurnBy t m =
-    eqb (getD t 5 0) 0 && eqb (kindOf (m .event)) 2 && isNamedBy (turnFor (named t)) (eventName (m .event)) && eqb ((told t m) .answer) 0
+    eqb (getD t acaOffset 0) 0 && eqb (kindOf (m .event)) 2 && isNamedBy (turnFor (named t)) (eventName (m .event)) && eqb ((told t m) .answer) 0
 
 abbrev pub turnsBy : List ℕ → List Call → ℕ
 turnsBy t [] = 0

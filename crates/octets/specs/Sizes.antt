@@ -8,6 +8,7 @@
 --   policyOffset, countOffset, acaOffset, runOffset  := where the header record has policy, task count, ACA and run
 --   pendingOffset, pendingsAt  := where a nexus record has the pending bits; where the first does, in a table
 --   nexusOffset, attributeOffset, stateOffset, controlOffset  := where a task record has nexus, attribute, state and control
+--   kindOffset, senderOffset, firstOffset, secondOffset  := where an event record has kind, nexus, first and second
 --   attributesAt, statesAt    := where the first task record of a table has attribute and state
 use Prim.Native.Nat.{ℕ, _+_, _*_}
 use Rattle.values.specs.Limits.{places, nexuses}
@@ -79,6 +80,19 @@ stateOffset = 4
 
 abbrev pub controlOffset : ℕ
 controlOffset = 5
+
+-- "event | 54 56 | kind; nexus; first; second; tag"
+abbrev pub kindOffset : ℕ
+kindOffset = 2
+
+abbrev pub senderOffset : ℕ
+senderOffset = 3
+
+abbrev pub firstOffset : ℕ
+firstOffset = 4
+
+abbrev pub secondOffset : ℕ
+secondOffset = 5
 
 abbrev pub attributesAt : ℕ
 attributesAt = tasksAt + attributeOffset

@@ -7,9 +7,7 @@ use crate::sizes::TAGGED_SIZE;
 use crate::sizes::UNTAGGED_SIZE;
 use values::Tag;
 ghost use mathlib.Core.Path.{_≡_};
-ghost use mathlib.Core.Bool.{Bool, _&&_};
 ghost use Prim.Native.Nat.{_+_, _≤_, _/_, _%_};
-ghost use lib.Dec.{eqb};
 ghost use Rattle.octets.specs.Bytes.{flag, bitOf, tagFrom, tagIn, isMark};
 ghost use Rattle.octets.specs.Words.{halfOf, FourBytes, IsWord};
 

@@ -41,6 +41,15 @@ pub const PENDING_OFFSET: usize = 3;
 
 pub const PENDINGS_AT: usize = NEXUSES_AT + PENDING_OFFSET;
 
+// In an event record.
+pub const KIND_OFFSET: usize = 2;
+
+pub const SENDER_OFFSET: usize = 3;
+
+pub const FIRST_OFFSET: usize = 4;
+
+pub const SECOND_OFFSET: usize = 5;
+
 // In a task record, and in the first of them.
 pub const NEXUS_OFFSET: usize = 2;
 

@@ -20,7 +20,7 @@ use Rattle.rules.specs.Well.{wellFormed}
 use Rattle.rules.proofs.WellKept.{Tested, to-tested}
 use Rattle.records.specs.Numbers.{attributeFits, stateFits, policyFits, pendingFits}
 use Rattle.records.specs.Records.{headerBytes, headerFrom, headerFits, nexusBytes, nexusFits, pendingIn, taskBytes, taskFrom, taskFits, unusedBytes, unusedFits}
-use Rattle.records.specs.Tables.{Bytes, tasksFrom, pendingsFrom, countIn, stateOf, nexusRecords, unusedRecords, tableWith, countsOf, tableBytes, nexusesFit, tasksFit, unusedFit, goodTable}
+use Rattle.records.specs.Tables.{Bytes, tasksFrom, pendingsFrom, countIn, stateOf, nexusRecords, unusedRecords, tableWith, tableBytes, nexusesFit, tasksFit, unusedFit, goodTable}
 use Rattle.records.proofs.Values.{attribute-good, state-good, flag-good, aca-good, policy-good, pending-good, tag-high-good, tag-low-good}
 
 -- One record -------------------------------------------------------------------------------------------------------------------------------

@@ -13,10 +13,11 @@ use Prim.Native.Nat.{ℕ, _+_, _*_, _<_}
 use mathlib.Core.Path.{_≡_}
 use mathlib.Core.Logic.{_⊎_}
 use mathlib.Core.Bool.{Bool, true, false, cond, _||_, _&&_}
-use mathlib.Core.List.{List, [], _∷_}
+use mathlib.Core.List.{List, _∷_}
 use lib.Dec.{eqb, ltb}
 use lib.ListN.{length, getD}
 use Rattle.rules.specs.Types.{Asked, Entry, Finish, Function, Happening, Event}
+use Rattle.octets.specs.Sizes.{kindOffset, senderOffset, firstOffset, secondOffset}
 use Rattle.records.specs.Types.{EventRead}
 use Rattle.records.specs.Numbers.{flag, bitOf, tagIn, tagBytes, attributeNumber, attributeFits, attributeFrom}
 use Rattle.records.specs.Records.{eventSize, marked}
@@ -68,7 +69,7 @@ eventFrom k n a b g =
 unfoldable pub eventOf : List ℕ → EventRead
 eventOf e =
     cond (eqb (length e) eventSize && marked e 0x56)
-    (eventFrom (getD e 2 0) (getD e 3 0) (getD e 4 0) (getD e 5 0) (tagIn e))
+    (eventFrom (getD e kindOffset 0) (getD e senderOffset 0) (getD e firstOffset 0) (getD e secondOffset 0) (tagIn e))
     EventRead.Unreadable
 
 -- Writing ----------------------------------------------------------------------------------------------------------------------------------

@@ -4,6 +4,10 @@ use crate::tasks::attribute_from;
 use octets::bit_of;
 use octets::is_mark;
 use octets::sizes::EVENT_SIZE;
+use octets::sizes::FIRST_OFFSET;
+use octets::sizes::KIND_OFFSET;
+use octets::sizes::SECOND_OFFSET;
+use octets::sizes::SENDER_OFFSET;
 use octets::tag_in;
 use octets::tagged::get_tagged;
 use values::Asked;
@@ -137,5 +141,11 @@ pub fn event_of(e: &[u8]) -> EventRead
     if !is_mark(r[0], r[1], 0x56) {
         return EventRead::Unreadable;
     }
-    event_from(r[2], r[3], r[4], r[5], tag_in(r))
+    event_from(
+        r[KIND_OFFSET],
+        r[SENDER_OFFSET],
+        r[FIRST_OFFSET],
+        r[SECOND_OFFSET],
+        tag_in(r),
+    )
 }

@@ -1,6 +1,6 @@
 -- Laws of a command's entry, for every state: the overlapped command (check 1), the bad attribute (check 4) and the full task set (check 5).
 use Prim.Native.Nat.{ℕ, _<_}
-use mathlib.Core.Bool.{Bool, true, false, cond, not}
+use mathlib.Core.Bool.{Bool, true, false, not}
 use mathlib.Core.Path.{_≡_, refl, ap}
 use mathlib.Core.List.{List, [], _∷_, map, append-nil}
 use mathlib.Core.Option.{none}

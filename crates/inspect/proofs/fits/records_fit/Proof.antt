@@ -1,5 +1,4 @@
 use borrow.Author.Needs.{needs}
-use Rattle.rules.specs.Tasks.{nexuses}
 use Rattle.inspect.proofs.fits.records_fit.Statement.{statement}
 use Rattle.inspect.proofs.fits.records_fit.Tie as tie
 
