@@ -96,7 +96,7 @@ fn last_checks(h: Header, c: Entry) -> Ruling
     let aca = h.aca;
     let asked = c.asked;
     if bad_attribute(aca, asked) {
-        // As check_condition has it. Called here too, that makes an event some 15 instructions longer, at 64 tasks 45.
+        // As check_condition has it. Called here too, that makes every event some 15 instructions longer at 3 tasks.
         return Ruling::Changes(
             Answer::EndedAtEntry(0x02, sense(0x5, 0x49, 0x00)),
             sweeping_by(h, Sweep::Nobody),
