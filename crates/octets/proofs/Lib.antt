@@ -1,1 +1,2 @@
+pub mod PrintedSizes
 pub mod Widths

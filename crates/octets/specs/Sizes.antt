@@ -1,5 +1,5 @@
--- How long the records are, and where they and their fields stand (document 01, "Bytes"). src/sizes.rt has the same numbers for code, and no other
--- file says them.
+-- How long the records are, and where they and their fields stand (document 01, "Bytes"). src/sizes.rt has the same numbers for code; no other contract,
+-- law or function of the library says them. That they come to the paper's 8, 584 and 512 is proved (proofs/PrintedSizes).
 --
 --   untaggedSize, taggedSize  := the width of a header or nexus record; of one that names a task: a task, ended or event record
 --   headSize, nexusSize, taskSize, endedSize, eventSize   := the widths by kind
@@ -8,11 +8,12 @@
 --   policyOffset, countOffset, acaOffset, runOffset  := where the header record has policy, task count, ACA and run
 --   pendingOffset, pendingsAt  := where a nexus record has the pending bits; where the first does, in a table
 --   nexusOffset, attributeOffset, stateOffset, controlOffset  := where a task record has nexus, attribute, state and control
---   kindOffset, senderOffset, firstOffset, secondOffset  := where an event record has kind, nexus, first and second
 --   attributesAt, statesAt    := where the first task record of a table has attribute and state
+--   kindOffset, senderOffset, firstOffset, secondOffset  := where an event record has kind, nexus, first and second
 use Prim.Native.Nat.{ℕ, _+_, _*_}
 use Rattle.values.specs.Limits.{places, nexuses}
 
+-- "Every record is 8 bytes"
 abbrev pub untaggedSize : ℕ
 untaggedSize = 8
 
@@ -34,7 +35,7 @@ endedSize = taggedSize
 abbrev pub eventSize : ℕ
 eventSize = taggedSize
 
--- "header, 8 nexus records in order 0 to 7, 64 task records"
+-- "Table: header, 8 nexus records in order 0 to 7, 64 task records; 584 bytes."
 abbrev pub nexusesAt : ℕ
 nexusesAt = headSize
 
@@ -81,6 +82,12 @@ stateOffset = 4
 abbrev pub controlOffset : ℕ
 controlOffset = 5
 
+abbrev pub attributesAt : ℕ
+attributesAt = tasksAt + attributeOffset
+
+abbrev pub statesAt : ℕ
+statesAt = tasksAt + stateOffset
+
 -- "event | 54 56 | kind; nexus; first; second; tag"
 abbrev pub kindOffset : ℕ
 kindOffset = 2
@@ -93,9 +100,3 @@ firstOffset = 4
 
 abbrev pub secondOffset : ℕ
 secondOffset = 5
-
-abbrev pub attributesAt : ℕ
-attributesAt = tasksAt + attributeOffset
-
-abbrev pub statesAt : ℕ
-statesAt = tasksAt + stateOffset

@@ -1,5 +1,5 @@
 // How long the records are, and where they and their fields stand (document 01, "Bytes"): the numbers for code. specs/Sizes.antt has the same for contracts
-// and laws, and no other file says them.
+// and laws.
 use values::NEXUSES;
 use values::PLACES;
 

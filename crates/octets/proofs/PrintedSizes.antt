@@ -1,0 +1,15 @@
+-- The lengths that document 01 prints: "Every record is 8 bytes", "584 bytes", "Report: 512 bytes", "a length other than 8" for an event.
+use mathlib.Core.Path.{_≡_, refl}
+use Rattle.octets.specs.Sizes.{headSize, nexusSize, taskSize, endedSize, eventSize, tableSize, reportSize}
+
+pub record PrintedSizes : Type 0 where
+  pub header : headSize ≡ 8
+  pub nexus : nexusSize ≡ 8
+  pub task : taskSize ≡ 8
+  pub ended : endedSize ≡ 8
+  pub event : eventSize ≡ 8
+  pub table : tableSize ≡ 584
+  pub report : reportSize ≡ 512
+
+pub printed-sizes : PrintedSizes
+printed-sizes = record { header = refl; nexus = refl; task = refl; ended = refl; event = refl; table = refl; report = refl }
