@@ -82,7 +82,7 @@ $(eval $(call program,outside,tests/outside/*.c,tests/outside/*.h second/layout.
 $(eval $(call program,replay,tests/cases/*.c,tests/cases/*.h,))
 
 # One after the other, the quick ones first. The last line is that of `rt ci`: N passed, 0 failed.
-TESTS := need header crates promises opened install driver outside pages cases compare
+TESTS := need header crates names promises opened install driver outside pages cases compare
 .PHONY: test
 test:
 	@for test in $(TESTS); do \
@@ -105,6 +105,9 @@ test-header:
 
 test-crates: tests/crates
 	tests/crates
+
+test-names: tests/names
+	tests/names
 
 test-install: $(ARCHIVE)
 	tests/install/run

@@ -47,7 +47,7 @@ WORDS = {
     "replicate": lambda count, element: [element] * count,
     "take": lambda count, elements: elements[:count],
     "set": with_set,
-    "same": SAME,
+    "unchanged": SAME,
     "now": lambda bytes_given: bytes_given,
     "lend": Lend,
     "start": Start,

@@ -1,7 +1,7 @@
 -- Document 01, "Ends, ACA and aborts": QERR, TAS, who is told.
 use mathlib.Core.List.{[], _∷_}
 use Rattle.cases.specs.Makers.{simple, headOfQueue, dormant, enabled}
-use Rattle.cases.specs.Makers.{header, task, endedRecord, command, completion, management, condition, bits, quiet, table, report}
+use Rattle.cases.specs.Makers.{header, task, endedRecord, command, completion, management, condition, bits, quiet, table, listing}
 use Rattle.cases.specs.Shorthand.{answerLine, does, keeps, from}
 use Rattle.cases.specs.Play.{lend, Case}
 
@@ -9,7 +9,7 @@ use Rattle.cases.specs.Play.{lend, Case}
 abbrev pub qerrNone : Case
 qerrNone =
     from (table (header 0x04 2 0 0) quiet (task 0 simple enabled 0 1 ∷ task 0 simple enabled 0 2 ∷ []))
-    (does (completion 0 0x02 1) (answerLine 0 0 0 0 0 1) (table (header 0x04 1 0 0) quiet (task 0 simple enabled 0 2 ∷ [])) (report (endedRecord 0 0x02 1 ∷ []))
+    (does (completion 0 0x02 1) (answerLine 0 0 0 0 0 1) (table (header 0x04 1 0 0) quiet (task 0 simple enabled 0 2 ∷ [])) (listing (endedRecord 0 0x02 1 ∷ []))
     ∷ [])
 
 -- DECISIONS: "The completed task keeps its age place in the report among those aborted with it. QERR applies with NACA 1 too, before the ACA."
@@ -17,7 +17,7 @@ abbrev pub qerrAll : Case
 qerrAll =
     from (table (header 0x01 3 0 0) quiet (task 1 simple enabled 0 1 ∷ task 0 simple enabled 1 1 ∷ task 2 simple enabled 0 1 ∷ []))
     (does (completion 0 0x02 1) (answerLine 0 0 0 0 0 3)
-    (table (header 0x01 0 1 0) (bits 0 0x10 0x10 0 0 0 0 0) []) (report (endedRecord 1 0xFF 1 ∷ endedRecord 0 0x02 1 ∷ endedRecord 2 0xFF 1 ∷ []))
+    (table (header 0x01 0 1 0) (bits 0 0x10 0x10 0 0 0 0 0) []) (listing (endedRecord 1 0xFF 1 ∷ endedRecord 0 0x02 1 ∷ endedRecord 2 0xFF 1 ∷ []))
     ∷ [])
 
 -- "11b the rest of that nexus". DECISIONS: "QERR 11b tells nobody": 0.2 gets FFh with TAS 0 and with TAS 1
@@ -25,10 +25,10 @@ abbrev pub qerrNexus : Case
 qerrNexus =
     from (table (header 0x03 3 0 0) quiet (task 0 simple enabled 0 1 ∷ task 1 simple enabled 0 1 ∷ task 0 simple enabled 0 2 ∷ []))
     (does (completion 0 0x02 1) (answerLine 0 0 0 0 0 2)
-    (table (header 0x03 1 0 0) quiet (task 1 simple enabled 0 1 ∷ [])) (report (endedRecord 0 0x02 1 ∷ endedRecord 0 0xFF 2 ∷ []))
+    (table (header 0x03 1 0 0) quiet (task 1 simple enabled 0 1 ∷ [])) (listing (endedRecord 0 0x02 1 ∷ endedRecord 0 0xFF 2 ∷ []))
     ∷ lend (table (header 0x07 3 0 0) quiet (task 0 simple enabled 0 1 ∷ task 1 simple enabled 0 1 ∷ task 0 simple enabled 0 2 ∷ []))
     ∷ does (completion 0 0x02 1) (answerLine 0 0 0 0 0 2)
-    (table (header 0x07 1 0 0) quiet (task 1 simple enabled 0 1 ∷ [])) (report (endedRecord 0 0x02 1 ∷ endedRecord 0 0xFF 2 ∷ []))
+    (table (header 0x07 1 0 0) quiet (task 1 simple enabled 0 1 ∷ [])) (listing (endedRecord 0 0x02 1 ∷ endedRecord 0 0xFF 2 ∷ []))
     ∷ [])
 
 -- "If TAS is 0, each other nexus that lost a task so gets bit 4." DECISIONS: "Bit 4 is set beside higher bits too, only for nexuses that lost a task
@@ -40,7 +40,7 @@ clearTaskSet =
     (task 0 simple enabled 0 1 ∷ task 1 simple enabled 0 1 ∷ task 2 headOfQueue enabled 0 1 ∷ task 1 simple dormant 0 2 ∷ []))
     (does (management 0 3 0) (answerLine 0 0 0 0 0 4)
     (table (header 0x00 0 0 1) (bits 0 0x10 0x11 1 0 0 0 0) [])
-    (report (endedRecord 0 0xFF 1 ∷ endedRecord 1 0xFF 1 ∷ endedRecord 2 0xFF 1 ∷ endedRecord 1 0xFF 2 ∷ []))
+    (listing (endedRecord 0 0xFF 1 ∷ endedRecord 1 0xFF 1 ∷ endedRecord 2 0xFF 1 ∷ endedRecord 1 0xFF 2 ∷ []))
     ∷ [])
 
 -- "tasks of a nexus other than the causing one get TASK ABORTED 40h if TAS is 1", and then no bit 4
@@ -48,7 +48,7 @@ abbrev pub clearTaskSetTas : Case
 clearTaskSetTas =
     from (table (header 0x04 3 0 0) (bits 0 0 1 0 0 0 0 0) (task 0 simple enabled 0 1 ∷ task 1 simple enabled 0 1 ∷ task 2 simple enabled 0 1 ∷ []))
     (does (management 0 3 0) (answerLine 0 0 0 0 0 3)
-    (table (header 0x04 0 0 0) (bits 0 0 1 0 0 0 0 0) []) (report (endedRecord 0 0xFF 1 ∷ endedRecord 1 0x40 1 ∷ endedRecord 2 0x40 1 ∷ []))
+    (table (header 0x04 0 0 0) (bits 0 0 1 0 0 0 0 0) []) (listing (endedRecord 0 0xFF 1 ∷ endedRecord 1 0x40 1 ∷ endedRecord 2 0x40 1 ∷ []))
     ∷ [])
 
 -- DECISIONS: "40h only by CLEAR TASK SET and QERR": under TAS 1 ABORT TASK, ABORT TASK SET, overlap, nexus loss and logical unit reset give FFh, and
@@ -60,14 +60,14 @@ otherAborts =
     (task 0 simple enabled 0 1 ∷ task 1 simple enabled 0 1 ∷ task 2 simple enabled 0 1 ∷ task 3 simple enabled 0 1 ∷ task 4 simple enabled 0 1 ∷ []))
     (does (management 0 1 1) (answerLine 0 0 0 0 0 1)
     (table (header 0x05 4 0 0) quiet (task 1 simple enabled 0 1 ∷ task 2 simple enabled 0 1 ∷ task 3 simple enabled 0 1 ∷ task 4 simple enabled 0 1 ∷ []))
-    (report (endedRecord 0 0xFF 1 ∷ []))
+    (listing (endedRecord 0 0xFF 1 ∷ []))
     ∷ keeps (management 0 1 1) (answerLine 0 0 0 0 0 0)
     ∷ does (management 1 2 0) (answerLine 0 0 0 0 0 1)
     (table (header 0x05 3 0 0) quiet (task 2 simple enabled 0 1 ∷ task 3 simple enabled 0 1 ∷ task 4 simple enabled 0 1 ∷ []))
-    (report (endedRecord 1 0xFF 1 ∷ []))
+    (listing (endedRecord 1 0xFF 1 ∷ []))
     ∷ does (command 2 simple 0 1) (answerLine 7 0x02 0x0B 0x4E 0x00 1)
-    (table (header 0x05 2 0 0) quiet (task 3 simple enabled 0 1 ∷ task 4 simple enabled 0 1 ∷ [])) (report (endedRecord 2 0xFF 1 ∷ []))
+    (table (header 0x05 2 0 0) quiet (task 3 simple enabled 0 1 ∷ task 4 simple enabled 0 1 ∷ [])) (listing (endedRecord 2 0xFF 1 ∷ []))
     ∷ does (condition 3 3) (answerLine 0 0 0 0 0 1)
-    (table (header 0x05 1 0 0) (bits 0 0 0 8 0 0 0 0) (task 4 simple enabled 0 1 ∷ [])) (report (endedRecord 3 0xFF 1 ∷ []))
-    ∷ does (management 0 5 0) (answerLine 0 0 0 0 0 1) (table (header 0x05 0 0 0) (bits 4 4 4 4 4 4 4 4) []) (report (endedRecord 4 0xFF 1 ∷ []))
+    (table (header 0x05 1 0 0) (bits 0 0 0 8 0 0 0 0) (task 4 simple enabled 0 1 ∷ [])) (listing (endedRecord 3 0xFF 1 ∷ []))
+    ∷ does (management 0 5 0) (answerLine 0 0 0 0 0 1) (table (header 0x05 0 0 0) (bits 4 4 4 4 4 4 4 4) []) (listing (endedRecord 4 0xFF 1 ∷ []))
     ∷ [])

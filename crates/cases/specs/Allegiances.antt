@@ -2,7 +2,7 @@
 use Prim.Native.Nat.{ℕ}
 use mathlib.Core.List.{List, [], _∷_}
 use Rattle.cases.specs.Makers.{simple, headOfQueue, ordered, aca, dormant, enabled, blocked}
-use Rattle.cases.specs.Makers.{header, task, endedRecord, command, completion, management, bits, quiet, table, report}
+use Rattle.cases.specs.Makers.{header, task, endedRecord, command, completion, management, bits, quiet, table, listing}
 use Rattle.cases.specs.Shorthand.{answerLine, nothing, does, enters, keeps, refuses, from}
 use Rattle.cases.specs.Play.{lend, name, Case}
 
@@ -15,11 +15,11 @@ acaBegins =
     (task 0 simple enabled 1 1 ∷ task 1 simple enabled 0 1 ∷ task 2 ordered dormant 0 1 ∷ task 3 headOfQueue enabled 0 1 ∷ []))
     (does (completion 0 0x02 1) (answerLine 0 0 0 0 0 1)
     (table (header 0x00 3 1 0) quiet (task 1 simple blocked 0 1 ∷ task 2 ordered dormant 0 1 ∷ task 3 headOfQueue blocked 0 1 ∷ []))
-    (report (endedRecord 0 0x02 1 ∷ []))
+    (listing (endedRecord 0 0x02 1 ∷ []))
     ∷ does (management 1 1 1) (answerLine 0 0 0 0 0 1)
-    (table (header 0x00 2 1 0) quiet (task 2 ordered dormant 0 1 ∷ task 3 headOfQueue blocked 0 1 ∷ [])) (report (endedRecord 1 0xFF 1 ∷ []))
+    (table (header 0x00 2 1 0) quiet (task 2 ordered dormant 0 1 ∷ task 3 headOfQueue blocked 0 1 ∷ [])) (listing (endedRecord 1 0xFF 1 ∷ []))
     ∷ does (management 0 4 0) (answerLine 0 0 0 0 0 0)
-    (table (header 0x00 2 0 0) quiet (task 2 ordered enabled 0 1 ∷ task 3 headOfQueue enabled 0 1 ∷ [])) (report [])
+    (table (header 0x00 2 0 0) quiet (task 2 ordered enabled 0 1 ∷ task 3 headOfQueue enabled 0 1 ∷ [])) (listing [])
     ∷ [])
 
 -- in an ACA of nexus 0 at run 3: 1.1 S blocked, 2.1 O dormant, 3.1 S dormant, and the ACA task 0.9, with this control byte
@@ -41,7 +41,7 @@ others = task 1 simple blocked 0 1 ∷ task 2 ordered dormant 0 1 ∷ task 3 sim
 abbrev pub acaTaskGood : Case
 acaTaskGood =
     from acaTask0
-    (does (completion 0 0x00 9) (answerLine 0 0 0 0 0 1) (table (header 0x00 3 1 3) quiet others) (report (endedRecord 0 0x00 9 ∷ []))
+    (does (completion 0 0x00 9) (answerLine 0 0 0 0 0 1) (table (header 0x00 3 1 3) quiet others) (listing (endedRecord 0 0x00 9 ∷ []))
     ∷ name nothing
     ∷ enters (command 0 aca 0 10)
     (table (header 0x00 4 1 3) quiet (task 1 simple blocked 0 1 ∷ task 2 ordered dormant 0 1 ∷ task 3 simple dormant 0 1 ∷ task 0 aca enabled 0 10 ∷ []))
@@ -53,13 +53,13 @@ acaTaskFails =
     from acaTask0
     (does (completion 0 0x02 9) (answerLine 0 0 0 0 0 1)
     (table (header 0x00 3 0 3) quiet (task 1 simple enabled 0 1 ∷ task 2 ordered dormant 0 1 ∷ task 3 simple dormant 0 1 ∷ []))
-    (report (endedRecord 0 0x02 9 ∷ []))
+    (listing (endedRecord 0 0x02 9 ∷ []))
     ∷ [])
 
 -- DECISIONS: "CHECK CONDITION on the ACA task with NACA 1 leaves an ACA for that nexus as before, and no state changes in between."
 abbrev pub acaTaskFailsAgain : Case
 acaTaskFailsAgain =
-    from acaTask1 (does (completion 0 0x02 9) (answerLine 0 0 0 0 0 1) (table (header 0x00 3 1 3) quiet others) (report (endedRecord 0 0x02 9 ∷ [])) ∷ [])
+    from acaTask1 (does (completion 0 0x02 9) (answerLine 0 0 0 0 0 1) (table (header 0x00 3 1 3) quiet others) (listing (endedRecord 0 0x02 9 ∷ [])) ∷ [])
 
 -- DECISIONS: "In an ACA only the ACA task can complete; any other completion of a present task is 6": blocked, dormant; absent 5
 abbrev pub onlyAcaTaskCompletes : Case
@@ -74,7 +74,7 @@ onlyAcaTaskCompletes =
 -- `abortTaskSetInAca`, overlap `overlapFirst`.)
 abbrev pub abortTaskInAca : Case
 abortTaskInAca =
-    from acaTask0 (does (management 0 1 9) (answerLine 0 0 0 0 0 1) (table (header 0x00 3 1 3) quiet others) (report (endedRecord 0 0xFF 9 ∷ [])) ∷ [])
+    from acaTask0 (does (management 0 1 9) (answerLine 0 0 0 0 0 1) (table (header 0x00 3 1 3) quiet others) (listing (endedRecord 0 0xFF 9 ∷ [])) ∷ [])
 
 -- "CLEAR TASK SET ends all; ACA stays.", from the faulted nexus and from another
 abbrev pub clearTaskSetInAca : Case
@@ -82,11 +82,11 @@ clearTaskSetInAca =
     from acaTask0
     (does (management 0 3 0) (answerLine 0 0 0 0 0 4)
     (table (header 0x00 0 1 3) (bits 0 0x10 0x10 0x10 0 0 0 0) [])
-    (report (endedRecord 1 0xFF 1 ∷ endedRecord 2 0xFF 1 ∷ endedRecord 3 0xFF 1 ∷ endedRecord 0 0xFF 9 ∷ []))
+    (listing (endedRecord 1 0xFF 1 ∷ endedRecord 2 0xFF 1 ∷ endedRecord 3 0xFF 1 ∷ endedRecord 0 0xFF 9 ∷ []))
     ∷ lend acaTask0
     ∷ does (management 2 3 0) (answerLine 0 0 0 0 0 4)
     (table (header 0x00 0 1 3) (bits 0x10 0x10 0 0x10 0 0 0 0) [])
-    (report (endedRecord 1 0xFF 1 ∷ endedRecord 2 0xFF 1 ∷ endedRecord 3 0xFF 1 ∷ endedRecord 0 0xFF 9 ∷ []))
+    (listing (endedRecord 1 0xFF 1 ∷ endedRecord 2 0xFF 1 ∷ endedRecord 3 0xFF 1 ∷ endedRecord 0 0xFF 9 ∷ []))
     ∷ [])
 
 -- "CLEAR ACA: without ACA done, no change". DECISIONS: "from any nexus, with a report of zeros"
@@ -104,7 +104,7 @@ clearAca =
     from (table (header 0x00 3 1 3) quiet (task 0 simple blocked 0 1 ∷ task 2 ordered dormant 0 1 ∷ task 0 aca enabled 0 9 ∷ []))
     (keeps (management 2 4 0) (answerLine 8 0 0 0 0 0)
     ∷ does (management 0 4 0) (answerLine 0 0 0 0 0 1)
-    (table (header 0x00 2 0 3) quiet (task 0 simple enabled 0 1 ∷ task 2 ordered dormant 0 1 ∷ [])) (report (endedRecord 0 0xFF 9 ∷ []))
+    (table (header 0x00 2 0 3) quiet (task 0 simple enabled 0 1 ∷ task 2 ordered dormant 0 1 ∷ [])) (listing (endedRecord 0 0xFF 9 ∷ []))
     ∷ [])
 
 -- DECISIONS: "QERR at the ACA task's CHECK CONDITION ends blocked and dormant tasks of others too. .. on a lent well-formed table it shows":
@@ -113,7 +113,7 @@ abbrev pub qerrEndsBlocked : Case
 qerrEndsBlocked =
     from (table (header 0x01 2 1 0) quiet (task 1 simple blocked 0 1 ∷ task 0 aca enabled 0 1 ∷ []))
     (does (completion 0 0x02 1) (answerLine 0 0 0 0 0 2)
-    (table (header 0x01 0 0 0) (bits 0 0x10 0 0 0 0 0 0) []) (report (endedRecord 1 0xFF 1 ∷ endedRecord 0 0x02 1 ∷ []))
+    (table (header 0x01 0 0 0) (bits 0 0x10 0 0 0 0 0 0) []) (listing (endedRecord 1 0xFF 1 ∷ endedRecord 0 0x02 1 ∷ []))
     ∷ [])
 
 -- the same with TAS 1, a dormant task, and NACA 1: the ACA stays
@@ -121,7 +121,7 @@ abbrev pub qerrEndsDormant : Case
 qerrEndsDormant =
     from (table (header 0x05 3 1 0) quiet (task 1 simple blocked 0 1 ∷ task 2 ordered dormant 0 1 ∷ task 0 aca enabled 1 1 ∷ []))
     (does (completion 0 0x02 1) (answerLine 0 0 0 0 0 3)
-    (table (header 0x05 0 1 0) quiet []) (report (endedRecord 1 0x40 1 ∷ endedRecord 2 0x40 1 ∷ endedRecord 0 0x02 1 ∷ []))
+    (table (header 0x05 0 1 0) quiet []) (listing (endedRecord 1 0x40 1 ∷ endedRecord 2 0x40 1 ∷ endedRecord 0 0x02 1 ∷ []))
     ∷ [])
 
 -- the same with QERR 11b: 0.2 S ends, 1.1 S stays and is enabled as the ACA goes
@@ -129,5 +129,5 @@ abbrev pub qerrEndsNexusInAca : Case
 qerrEndsNexusInAca =
     from (table (header 0x03 3 1 0) quiet (task 1 simple blocked 0 1 ∷ task 0 simple blocked 0 2 ∷ task 0 aca enabled 0 1 ∷ []))
     (does (completion 0 0x02 1) (answerLine 0 0 0 0 0 2)
-    (table (header 0x03 1 0 0) quiet (task 1 simple enabled 0 1 ∷ [])) (report (endedRecord 0 0xFF 2 ∷ endedRecord 0 0x02 1 ∷ []))
+    (table (header 0x03 1 0 0) quiet (task 1 simple enabled 0 1 ∷ [])) (listing (endedRecord 0 0xFF 2 ∷ endedRecord 0 0x02 1 ∷ []))
     ∷ [])

@@ -5,7 +5,7 @@ use Rattle.cases.specs.Makers.{taskWidth, nexusPlace, tableLength, repor
 use Rattle.cases.specs.Makers.{simple, headOfQueue, ordered, aca, dormant, enabled, blocked}
 use Rattle.cases.specs.Makers.{header, task, unused, event, command, completion, management, condition, bits, quiet, table, clear}
 use Rattle.cases.specs.Shorthand.{answerLine, nothing, noTable, keeps, refuses, from}
-use Rattle.cases.specs.Play.{same, now, Move, lend, start, name, Case}
+use Rattle.cases.specs.Play.{unchanged, now, Move, lend, start, name, Case}
 
 -- "The lowest of 1 to 4 that applies is given": the table, the report and the event are bad, and the nexus is 8
 abbrev pub lowestIs1 : Case
@@ -63,26 +63,26 @@ rejected =
 abbrev pub starting : Case
 starting =
     from (junk tableLength)
-    (start 0x02 9 same
-    ∷ start 0x06 9 same
-    ∷ start 0x08 9 same
-    ∷ start 0xFF 9 same
+    (start 0x02 9 unchanged
+    ∷ start 0x06 9 unchanged
+    ∷ start 0x08 9 unchanged
+    ∷ start 0xFF 9 unchanged
     ∷ start 0x01 0 (now (table (header 0x01 0 0 0) (bits 1 1 1 1 1 1 1 1) []))
     ∷ start 0x03 0 (now (table (header 0x03 0 0 0) (bits 1 1 1 1 1 1 1 1) []))
     ∷ start 0x04 0 (now (table (header 0x04 0 0 0) (bits 1 1 1 1 1 1 1 1) []))
     ∷ start 0x05 0 (now (table (header 0x05 0 0 0) (bits 1 1 1 1 1 1 1 1) []))
     ∷ start 0x07 0 (now (table (header 0x07 0 0 0) (bits 1 1 1 1 1 1 1 1) []))
-    ∷ start 0x02 9 same
+    ∷ start 0x02 9 unchanged
     ∷ lend (junk (tableLength - 1))
-    ∷ start 0x00 1 same
-    ∷ start 0x02 1 same
+    ∷ start 0x00 1 unchanged
+    ∷ start 0x02 1 unchanged
     ∷ lend (junk (tableLength + 1))
-    ∷ start 0x00 1 same
+    ∷ start 0x00 1 unchanged
     ∷ [])
 
 -- "naming looks at the table (1)"; "0 with nothing"; "under nothing and under 1 nexus and tag are 0"
-abbrev pub naming : Case
-naming =
+abbrev pub namingNobody : Case
+namingNobody =
     from (junk tableLength)
     (name noTable
     ∷ lend (shorter (clear 0x00))

@@ -1,6 +1,6 @@
 -- Document 01, "Entry of a command, checks in order".
 use mathlib.Core.List.{[], _∷_}
-use Rattle.cases.specs.Makers.{simple, headOfQueue, ordered, aca, dormant, enabled, blocked, header, task, endedRecord, command, bits, quiet, table, report}
+use Rattle.cases.specs.Makers.{simple, headOfQueue, ordered, aca, dormant, enabled, blocked, header, task, endedRecord, command, bits, quiet, table, listing}
 use Rattle.cases.specs.Shorthand.{answerLine, does, enters, keeps, from}
 use Rattle.cases.specs.Play.{lend, Case}
 
@@ -14,11 +14,11 @@ overlapFirst =
     (task 1 simple blocked 0 1 ∷ task 2 simple blocked 0 1 ∷ task 1 ordered dormant 0 2 ∷ task 0 aca enabled 0 9 ∷ []))
     (does (command 1 3 0 1) (answerLine 7 0x02 0x0B 0x4E 0x00 2)
     (table (header 0x00 2 1 0) (bits 0 0x10 0 0 0 0 0 0) (task 2 simple blocked 0 1 ∷ task 0 aca enabled 0 9 ∷ []))
-    (report (endedRecord 1 0xFF 1 ∷ endedRecord 1 0xFF 2 ∷ []))
+    (listing (endedRecord 1 0xFF 1 ∷ endedRecord 1 0xFF 2 ∷ []))
     ∷ does (command 0 aca 0 9) (answerLine 7 0x02 0x0B 0x4E 0x00 1)
-    (table (header 0x00 1 1 0) (bits 0 0x10 0 0 0 0 0 0) (task 2 simple blocked 0 1 ∷ [])) (report (endedRecord 0 0xFF 9 ∷ []))
+    (table (header 0x00 1 1 0) (bits 0 0x10 0 0 0 0 0 0) (task 2 simple blocked 0 1 ∷ [])) (listing (endedRecord 0 0xFF 9 ∷ []))
     ∷ does (command 2 simple 2 1) (answerLine 7 0x02 0x0B 0x4E 0x00 1)
-    (table (header 0x00 0 1 0) (bits 0 0x10 0 0 0 0 0 0) []) (report (endedRecord 2 0xFF 1 ∷ []))
+    (table (header 0x00 0 1 0) (bits 0 0x10 0 0 0 0 0 0) []) (listing (endedRecord 2 0xFF 1 ∷ []))
     ∷ [])
 
 -- DECISIONS: "States are brought up to date under answer 7 as well.": 1.1 S was dormant behind 0.1 O. "The refused command has no ended record".
@@ -26,7 +26,7 @@ abbrev pub overlapSettles : Case
 overlapSettles =
     from (table (header 0x00 3 0 0) quiet (task 0 ordered enabled 0 1 ∷ task 1 simple dormant 0 1 ∷ task 0 simple dormant 0 2 ∷ []))
     (does (command 0 simple 0 2) (answerLine 7 0x02 0x0B 0x4E 0x00 2)
-    (table (header 0x00 1 0 0) quiet (task 1 simple enabled 0 1 ∷ [])) (report (endedRecord 0 0xFF 1 ∷ endedRecord 0 0xFF 2 ∷ []))
+    (table (header 0x00 1 0 0) quiet (task 1 simple enabled 0 1 ∷ [])) (listing (endedRecord 0 0xFF 1 ∷ endedRecord 0 0xFF 2 ∷ []))
     ∷ [])
 
 -- "A command ended at entry neither sets up an ACA nor applies QERR.": QERR 01b and NACA 1; 1.1 stays. The attribute is "any byte": 03h, FFh.
@@ -36,7 +36,7 @@ entrySetsUpNoAca =
     (keeps (command 2 3 1 1) (answerLine 7 0x02 0x05 0x49 0x00 0)
     ∷ keeps (command 2 0xFF 1 1) (answerLine 7 0x02 0x05 0x49 0x00 0)
     ∷ does (command 0 simple 1 1) (answerLine 7 0x02 0x0B 0x4E 0x00 1)
-    (table (header 0x01 1 0 0) quiet (task 1 simple enabled 0 1 ∷ [])) (report (endedRecord 0 0xFF 1 ∷ []))
+    (table (header 0x01 1 0 0) quiet (task 1 simple enabled 0 1 ∷ [])) (listing (endedRecord 0 0xFF 1 ∷ []))
     ∷ [])
 
 -- DECISIONS: "Exempt skips check 3 and nothing else, and is not stored in the task." The bit stays; of the second byte NACA alone is in the
@@ -70,11 +70,11 @@ attributesInAca =
 abbrev pub rankOrder : Case
 rankOrder =
     from (table (header 0x00 0 0 0) (bits 0 0 0 0 0x1F 0x1F 0 0) [])
-    (does (command 4 simple 0 1) (answerLine 7 0x02 0x06 0x29 0x00 0) (table (header 0x00 0 0 0) (bits 0 0 0 0 0x1E 0x1F 0 0) []) (report [])
-    ∷ does (command 4 simple 0 1) (answerLine 7 0x02 0x06 0x29 0x02 0) (table (header 0x00 0 0 0) (bits 0 0 0 0 0x1C 0x1F 0 0) []) (report [])
-    ∷ does (command 4 simple 0 1) (answerLine 7 0x02 0x06 0x29 0x03 0) (table (header 0x00 0 0 0) (bits 0 0 0 0 0x18 0x1F 0 0) []) (report [])
-    ∷ does (command 4 simple 0 1) (answerLine 7 0x02 0x06 0x29 0x07 0) (table (header 0x00 0 0 0) (bits 0 0 0 0 0x10 0x1F 0 0) []) (report [])
-    ∷ does (command 4 simple 0 1) (answerLine 7 0x02 0x06 0x2F 0x00 0) (table (header 0x00 0 0 0) (bits 0 0 0 0 0 0x1F 0 0) []) (report [])
+    (does (command 4 simple 0 1) (answerLine 7 0x02 0x06 0x29 0x00 0) (table (header 0x00 0 0 0) (bits 0 0 0 0 0x1E 0x1F 0 0) []) (listing [])
+    ∷ does (command 4 simple 0 1) (answerLine 7 0x02 0x06 0x29 0x02 0) (table (header 0x00 0 0 0) (bits 0 0 0 0 0x1C 0x1F 0 0) []) (listing [])
+    ∷ does (command 4 simple 0 1) (answerLine 7 0x02 0x06 0x29 0x03 0) (table (header 0x00 0 0 0) (bits 0 0 0 0 0x18 0x1F 0 0) []) (listing [])
+    ∷ does (command 4 simple 0 1) (answerLine 7 0x02 0x06 0x29 0x07 0) (table (header 0x00 0 0 0) (bits 0 0 0 0 0x10 0x1F 0 0) []) (listing [])
+    ∷ does (command 4 simple 0 1) (answerLine 7 0x02 0x06 0x2F 0x00 0) (table (header 0x00 0 0 0) (bits 0 0 0 0 0 0x1F 0 0) []) (listing [])
     ∷ enters (command 4 simple 0 1) (table (header 0x00 1 0 0) (bits 0 0 0 0 0 0x1F 0 0) (task 4 simple enabled 0 1 ∷ []))
     ∷ [])
 
@@ -85,8 +85,8 @@ bitsInAca =
     from (table (header 0x00 0 1 0) (bits 0x14 0x08 0 0 0 0 0 0) [])
     (keeps (command 1 simple 0 1) (answerLine 7 0x08 0 0 0 0)
     ∷ keeps (command 0 simple 0 1) (answerLine 7 0x30 0 0 0 0)
-    ∷ does (command 0 aca 0 1) (answerLine 7 0x02 0x06 0x29 0x03 0) (table (header 0x00 0 1 0) (bits 0x10 0x08 0 0 0 0 0 0) []) (report [])
-    ∷ does (command 0 aca 0 1) (answerLine 7 0x02 0x06 0x2F 0x00 0) (table (header 0x00 0 1 0) (bits 0 0x08 0 0 0 0 0 0) []) (report [])
+    ∷ does (command 0 aca 0 1) (answerLine 7 0x02 0x06 0x29 0x03 0) (table (header 0x00 0 1 0) (bits 0x10 0x08 0 0 0 0 0 0) []) (listing [])
+    ∷ does (command 0 aca 0 1) (answerLine 7 0x02 0x06 0x2F 0x00 0) (table (header 0x00 0 1 0) (bits 0 0x08 0 0 0 0 0 0) []) (listing [])
     ∷ enters (command 0 aca 0 1) (table (header 0x00 1 1 0) (bits 0 0x08 0 0 0 0 0 0) (task 0 aca enabled 0 1 ∷ []))
     ∷ [])
 
@@ -94,6 +94,6 @@ bitsInAca =
 abbrev pub bitsBeforeAttribute : Case
 bitsBeforeAttribute =
     from (table (header 0x00 0 0 0) (bits 0 0 2 0 0 0 0 0) [])
-    (does (command 2 3 0 1) (answerLine 7 0x02 0x06 0x29 0x02 0) (table (header 0x00 0 0 0) quiet []) (report [])
+    (does (command 2 3 0 1) (answerLine 7 0x02 0x06 0x29 0x02 0) (table (header 0x00 0 0 0) quiet []) (listing [])
     ∷ keeps (command 2 3 0 1) (answerLine 7 0x02 0x05 0x49 0x00 0)
     ∷ [])

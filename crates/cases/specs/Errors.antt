@@ -1,7 +1,7 @@
 -- Document 01, "Plausible errors": each error as a case that tells it from the rule.
 use mathlib.Core.List.{[], _∷_}
 use Rattle.cases.specs.Makers.{simple, headOfQueue, ordered, aca, dormant, enabled, blocked}
-use Rattle.cases.specs.Makers.{header, task, endedRecord, command, completion, management, bits, quiet, table, clear, report}
+use Rattle.cases.specs.Makers.{header, task, endedRecord, command, completion, management, bits, quiet, table, clear, listing}
 use Rattle.cases.specs.Shorthand.{answerLine, namesTask, nothing, does, enters, keeps, refuses, from}
 use Rattle.cases.specs.Play.{name, Case}
 
@@ -13,7 +13,7 @@ dormantAsAcaBegins =
     (enters (command 0 ordered 1 1) (table (header 0x00 1 0 0) quiet (task 0 ordered enabled 1 1 ∷ []))
     ∷ enters (command 1 simple 0 1) (table (header 0x00 2 0 0) quiet (task 0 ordered enabled 1 1 ∷ task 1 simple dormant 0 1 ∷ []))
     ∷ does (completion 0 0x02 1) (answerLine 0 0 0 0 0 1) (table (header 0x00 1 1 0) quiet (task 1 simple dormant 0 1 ∷ []))
-    (report (endedRecord 0 0x02 1 ∷ []))
+    (listing (endedRecord 0 0x02 1 ∷ []))
     ∷ name nothing
     ∷ refuses (completion 1 0x00 1) 6
     ∷ [])
@@ -26,7 +26,7 @@ youngerHead =
     (enters (command 1 headOfQueue 0 1) (table (header 0x00 2 0 2) quiet (task 0 simple enabled 0 1 ∷ task 1 headOfQueue enabled 0 1 ∷ []))
     ∷ name (namesTask 1 1)
     ∷ does (completion 0 0x00 1) (answerLine 0 0 0 0 0 1)
-    (table (header 0x00 1 0 2) quiet (task 1 headOfQueue enabled 0 1 ∷ [])) (report (endedRecord 0 0x00 1 ∷ []))
+    (table (header 0x00 1 0 2) quiet (task 1 headOfQueue enabled 0 1 ∷ [])) (listing (endedRecord 0 0x00 1 ∷ []))
     ∷ [])
 
 -- "Clearing ACA on ABORT TASK SET.": from the faulted nexus it ends the ACA task too; the ACA stays, so that 1.1 stays blocked, nobody has
@@ -35,7 +35,7 @@ abbrev pub abortTaskSetInAca : Case
 abortTaskSetInAca =
     from (table (header 0x00 3 1 0) quiet (task 0 simple blocked 0 1 ∷ task 1 simple blocked 0 1 ∷ task 0 aca enabled 0 9 ∷ []))
     (does (management 0 2 0) (answerLine 0 0 0 0 0 2)
-    (table (header 0x00 1 1 0) quiet (task 1 simple blocked 0 1 ∷ [])) (report (endedRecord 0 0xFF 1 ∷ endedRecord 0 0xFF 9 ∷ []))
+    (table (header 0x00 1 1 0) quiet (task 1 simple blocked 0 1 ∷ [])) (listing (endedRecord 0 0xFF 1 ∷ endedRecord 0 0xFF 9 ∷ []))
     ∷ name nothing
     ∷ keeps (command 1 simple 0 2) (answerLine 7 0x08 0 0 0 0)
     ∷ [])
@@ -46,9 +46,9 @@ abbrev pub causingNexus : Case
 causingNexus =
     from (table (header 0x01 3 0 0) quiet (task 0 simple enabled 0 1 ∷ task 0 simple enabled 0 2 ∷ task 1 simple enabled 0 1 ∷ []))
     (does (completion 0 0x02 1) (answerLine 0 0 0 0 0 3)
-    (table (header 0x01 0 0 0) (bits 0 0x10 0 0 0 0 0 0) []) (report (endedRecord 0 0x02 1 ∷ endedRecord 0 0xFF 2 ∷ endedRecord 1 0xFF 1 ∷ []))
+    (table (header 0x01 0 0 0) (bits 0 0x10 0 0 0 0 0 0) []) (listing (endedRecord 0 0x02 1 ∷ endedRecord 0 0xFF 2 ∷ endedRecord 1 0xFF 1 ∷ []))
     ∷ enters (command 0 simple 0 3) (table (header 0x01 1 0 0) (bits 0 0x10 0 0 0 0 0 0) (task 0 simple enabled 0 3 ∷ []))
-    ∷ does (command 1 simple 0 3) (answerLine 7 0x02 0x06 0x2F 0x00 0) (table (header 0x01 1 0 0) quiet (task 0 simple enabled 0 3 ∷ [])) (report [])
+    ∷ does (command 1 simple 0 3) (answerLine 7 0x02 0x06 0x2F 0x00 0) (table (header 0x01 1 0 0) quiet (task 0 simple enabled 0 3 ∷ [])) (listing [])
     ∷ [])
 
 -- "Serving the youngest HEAD OF QUEUE task first, which starves older ones.": of 0.1, 1.1 and then 2.1 H the oldest has the turn each time
@@ -59,7 +59,7 @@ oldestHead =
     ∷ enters (command 1 headOfQueue 0 1) (table (header 0x00 2 0 0) quiet (task 0 headOfQueue enabled 0 1 ∷ task 1 headOfQueue enabled 0 1 ∷ []))
     ∷ name (namesTask 0 1)
     ∷ does (completion 0 0x00 1) (answerLine 0 0 0 0 0 1)
-    (table (header 0x00 1 0 1) quiet (task 1 headOfQueue enabled 0 1 ∷ [])) (report (endedRecord 0 0x00 1 ∷ []))
+    (table (header 0x00 1 0 1) quiet (task 1 headOfQueue enabled 0 1 ∷ [])) (listing (endedRecord 0 0x00 1 ∷ []))
     ∷ enters (command 2 headOfQueue 0 1) (table (header 0x00 2 0 1) quiet (task 1 headOfQueue enabled 0 1 ∷ task 2 headOfQueue enabled 0 1 ∷ []))
     ∷ name (namesTask 1 1)
     ∷ [])

@@ -1,7 +1,7 @@
 -- 64 tasks: document 01, case J and check 5.
 use Prim.Native.Nat.{ℕ, zero, suc}
 use mathlib.Core.List.{List, [], _∷_, _++_}
-use Rattle.cases.specs.Makers.{simple, aca, enabled, blocked, header, task, endedRecord, command, completion, bits, quiet, table, report}
+use Rattle.cases.specs.Makers.{simple, aca, enabled, blocked, header, task, endedRecord, command, completion, bits, quiet, table, listing}
 use Rattle.cases.specs.Shorthand.{answerLine, does, enters, keeps, from}
 use Rattle.cases.specs.Play.{Case}
 
@@ -19,9 +19,9 @@ caseJ =
     ∷ keeps (command 0 simple 0 2) (answerLine 7 0x28 0 0 0 0)
     ∷ keeps (command 0 3 0 2) (answerLine 7 0x02 0x05 0x49 0x00 0)
     ∷ does (command 2 simple 0 1) (answerLine 7 0x02 0x06 0x29 0x00 0)
-    (table (header 0x00 64 0 0) quiet (simples enabled 1 63 ++ task 0 simple enabled 0 1 ∷ [])) (report [])
+    (table (header 0x00 64 0 0) quiet (simples enabled 1 63 ++ task 0 simple enabled 0 1 ∷ [])) (listing [])
     ∷ does (completion 1 0x00 1) (answerLine 0 0 0 0 0 1)
-    (table (header 0x00 63 0 0) quiet (simples enabled 2 62 ++ task 0 simple enabled 0 1 ∷ [])) (report (endedRecord 1 0x00 1 ∷ []))
+    (table (header 0x00 63 0 0) quiet (simples enabled 2 62 ++ task 0 simple enabled 0 1 ∷ [])) (listing (endedRecord 1 0x00 1 ∷ []))
     ∷ enters (command 0 simple 0 2) (table (header 0x00 64 0 0) quiet (simples enabled 2 62 ++ task 0 simple enabled 0 1 ∷ task 0 simple enabled 0 2 ∷ []))
     ∷ [])
 

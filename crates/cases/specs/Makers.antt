@@ -37,7 +37,7 @@
 --   quiet                  := no pending bit
 --   table h ps ts          := a table: the header h, the nexus records with the pending bits ps, the task records ts, and unused ones up to 64
 --   clear p                := "Pending bits are clear": a table without tasks under the policy byte p
---   report es              := a report: the ended records es, then zeros to the end
+--   listing es             := a report: the ended records es, then zeros to the end
 --
 --   zeros n, junk n        := n zeros; n bytes that are neither zeros nor marks, so that what is left as it was can be told from what is written
 --   changed i v bs         := the bytes bs with v for byte i
@@ -98,9 +98,9 @@ shorter bs = take (length bs - 1) bs
 abbrev pub longer : List ℕ → List ℕ
 longer bs = bs ++ 0 ∷ []
 
-abbrev joined : List (List ℕ) → List ℕ
-joined [] = []
-joined (r ∷ rs) = r ++ joined rs
+abbrev strung : List (List ℕ) → List ℕ
+strung [] = []
+strung (r ∷ rs) = r ++ strung rs
 
 -- Records ----------------------------------------------------------------------------------------------------------------------------------
 
@@ -166,15 +166,15 @@ bits a b c d e f g h = a ∷ b ∷ c ∷ d ∷ e ∷ f ∷ g ∷ h ∷ []
 abbrev pub quiet : List ℕ
 quiet = bits 0 0 0 0 0 0 0 0
 
-abbrev nexuses : ℕ → List ℕ → List ℕ
-nexuses i [] = []
-nexuses i (p ∷ ps) = nexus i p 0 ++ nexuses (suc i) ps
+abbrev nexusesFrom : ℕ → List ℕ → List ℕ
+nexusesFrom i [] = []
+nexusesFrom i (p ∷ ps) = nexus i p 0 ++ nexusesFrom (suc i) ps
 
 abbrev pub table : List ℕ → List ℕ → List (List ℕ) → List ℕ
-table h ps ts = h ++ nexuses 0 ps ++ joined ts ++ joined (replicate (taskCount - length ts) unused)
+table h ps ts = h ++ nexusesFrom 0 ps ++ strung ts ++ strung (replicate (taskCount - length ts) unused)
 
 abbrev pub clear : ℕ → List ℕ
 clear p = table (header p 0 0 0) quiet []
 
-abbrev pub report : List (List ℕ) → List ℕ
-report es = joined es ++ zeros (reportLength - endedWidth * length es)
+abbrev pub listing : List (List ℕ) → List ℕ
+listing es = strung es ++ zeros (reportLength - endedWidth * length es)

@@ -5,9 +5,11 @@ use Rattle.cases.specs.Play.{Case}
 use Rattle.cases.specs.Begin.{cleared, tagOrder}
 use Rattle.cases.specs.Errors.{dormantAsAcaBegins, youngerHead, abortTaskSetInAca, causingNexus, oldestHead}
 use Rattle.cases.specs.Turns.{caseK, runStaysFour, orderedTurn, headOutOfTurn, failedTurn, turnInAca}
-use Rattle.cases.specs.Answers.{lowestIs1, lowestIs2, longReport, lowestIs3, lowestIs4, rejected, starting, naming, badHeads, badTasks, badWithoutAca, badInAca, unreachable, badEvents, eventLengths}
+use Rattle.cases.specs.Answers.{lowestIs1, lowestIs2, longReport, lowestIs3, lowestIs4, rejected, starting, namingNobody}
+use Rattle.cases.specs.Answers.{badHeads, badTasks, badWithoutAca, badInAca, unreachable, badEvents, eventLengths}
 use Rattle.cases.specs.Entries.{overlapFirst, overlapSettles, entrySetsUpNoAca, exempt, attributesInAca, rankOrder, bitsInAca, bitsBeforeAttribute}
-use Rattle.cases.specs.Allegiances.{acaBegins, acaTaskGood, acaTaskFails, acaTaskFailsAgain, onlyAcaTaskCompletes, abortTaskInAca, clearTaskSetInAca, clearNoAca, clearAca, qerrEndsBlocked, qerrEndsDormant, qerrEndsNexusInAca}
+use Rattle.cases.specs.Allegiances.{acaBegins, acaTaskGood, acaTaskFails, acaTaskFailsAgain, onlyAcaTaskCompletes, abortTaskInAca}
+use Rattle.cases.specs.Allegiances.{clearTaskSetInAca, clearNoAca, clearAca, qerrEndsBlocked, qerrEndsDormant, qerrEndsNexusInAca}
 use Rattle.cases.specs.Aborts.{qerrNone, qerrAll, qerrNexus, clearTaskSet, clearTaskSetTas, otherAborts}
 use Rattle.cases.specs.Resets.{unitReset, hardReset, powerOn, faultedNexusLoss, otherNexusLoss}
 use Rattle.cases.specs.Full.{caseJ, fullInAca}
@@ -35,7 +37,7 @@ more =
     ∷ lowestIs4
     ∷ rejected
     ∷ starting
-    ∷ naming
+    ∷ namingNobody
     ∷ badHeads
     ∷ badTasks
     ∷ badWithoutAca

@@ -3,7 +3,7 @@
 use Prim.Native.Nat.{ℕ}
 use mathlib.Core.List.{List, [], _∷_, _++_}
 use Rattle.cases.specs.Makers.{simple, headOfQueue, ordered, aca, dormant, enabled}
-use Rattle.cases.specs.Makers.{tableLength, junk, header, task, endedRecord, command, completion, management, bits, quiet, table, clear, report}
+use Rattle.cases.specs.Makers.{tableLength, junk, header, task, endedRecord, command, completion, management, bits, quiet, table, clear, listing}
 use Rattle.cases.specs.Shorthand.{answerLine, namesTask, does, enters, keeps, refuses, from}
 use Rattle.cases.specs.Play.{now, Move, lend, start, name, Case}
 
@@ -14,9 +14,9 @@ abbrev pub caseA : Case
 caseA =
     from (junk tableLength)
     (start 0x00 0 (now (table (header 0x00 0 0 0) (bits 1 1 1 1 1 1 1 1) []))
-    ∷ does (command 2 simple 0 7) (answerLine 7 0x02 0x06 0x29 0x00 0) (table (header 0x00 0 0 0) (bits 1 1 0 1 1 1 1 1) []) (report [])
+    ∷ does (command 2 simple 0 7) (answerLine 7 0x02 0x06 0x29 0x00 0) (table (header 0x00 0 0 0) (bits 1 1 0 1 1 1 1 1) []) (listing [])
     ∷ enters (command 2 simple 0 7) (table (header 0x00 1 0 0) (bits 1 1 0 1 1 1 1 1) (task 2 simple enabled 0 7 ∷ []))
-    ∷ does (completion 2 0x00 7) (answerLine 0 0 0 0 0 1) (table (header 0x00 0 0 0) (bits 1 1 0 1 1 1 1 1) []) (report (endedRecord 2 0x00 7 ∷ []))
+    ∷ does (completion 2 0x00 7) (answerLine 0 0 0 0 0 1) (table (header 0x00 0 0 0) (bits 1 1 0 1 1 1 1 1) []) (listing (endedRecord 2 0x00 7 ∷ []))
     ∷ [])
 
 -- "B*: 0.1 S, 1.1 O, 0.2 S: enabled, dormant, dormant. 0.1 ends: enabled, dormant. 1.1 ends: 0.2 enabled."
@@ -28,9 +28,9 @@ caseB =
     ∷ enters (command 0 simple 0 2)
     (table (header 0x00 3 0 0) quiet (task 0 simple enabled 0 1 ∷ task 1 ordered dormant 0 1 ∷ task 0 simple dormant 0 2 ∷ []))
     ∷ does (completion 0 0x00 1) (answerLine 0 0 0 0 0 1)
-    (table (header 0x00 2 0 0) quiet (task 1 ordered enabled 0 1 ∷ task 0 simple dormant 0 2 ∷ [])) (report (endedRecord 0 0x00 1 ∷ []))
+    (table (header 0x00 2 0 0) quiet (task 1 ordered enabled 0 1 ∷ task 0 simple dormant 0 2 ∷ [])) (listing (endedRecord 0 0x00 1 ∷ []))
     ∷ does (completion 1 0x00 1) (answerLine 0 0 0 0 0 1) (table (header 0x00 1 0 0) quiet (task 0 simple enabled 0 2 ∷ []))
-    (report (endedRecord 1 0x00 1 ∷ []))
+    (listing (endedRecord 1 0x00 1 ∷ []))
     ∷ [])
 
 abbrev tasksOfC : List (List ℕ)
@@ -60,7 +60,7 @@ intoAca =
     enters (command 0 simple 1 1) (table (header 0x00 1 0 0) quiet (task 0 simple enabled 1 1 ∷ []))
     ∷ enters (command 1 ordered 0 1) (table (header 0x00 2 0 0) quiet (task 0 simple enabled 1 1 ∷ task 1 ordered dormant 0 1 ∷ []))
     ∷ does (completion 0 0x02 1) (answerLine 0 0 0 0 0 1) (table (header 0x00 1 1 0) quiet (task 1 ordered dormant 0 1 ∷ []))
-    (report (endedRecord 0 0x02 1 ∷ []))
+    (listing (endedRecord 0 0x02 1 ∷ []))
     ∷ []
 
 -- "D*: 0.1 S (NACA 1), 1.1 O; 0.1 ends 02h: ACA byte 1, 1.1 dormant. CLEAR ACA from 1: 8. From 0: 1.1 enabled."
@@ -69,7 +69,7 @@ caseD =
     from (clear 0x00)
     (intoAca
     ++ (keeps (management 1 4 0) (answerLine 8 0 0 0 0 0)
-    ∷ does (management 0 4 0) (answerLine 0 0 0 0 0 0) (table (header 0x00 1 0 0) quiet (task 1 ordered enabled 0 1 ∷ [])) (report [])
+    ∷ does (management 0 4 0) (answerLine 0 0 0 0 0 0) (table (header 0x00 1 0 0) quiet (task 1 ordered enabled 0 1 ∷ [])) (listing [])
     ∷ []))
 
 -- "E*: in D's ACA, before any CLEAR ACA: 0.2 S gives 30h; 1.2 gives 08h, with NACA 1 30h; 0.3 attribute 4 enters enabled; 0.4 attribute 4
@@ -92,11 +92,11 @@ caseF =
     (enters (command 0 simple 0 1) (table (header 0x01 1 0 0) quiet (task 0 simple enabled 0 1 ∷ []))
     ∷ enters (command 1 simple 0 1) (table (header 0x01 2 0 0) quiet (task 0 simple enabled 0 1 ∷ task 1 simple enabled 0 1 ∷ []))
     ∷ does (completion 0 0x02 1) (answerLine 0 0 0 0 0 2)
-    (table (header 0x01 0 0 0) (bits 0 0x10 0 0 0 0 0 0) []) (report (endedRecord 0 0x02 1 ∷ endedRecord 1 0xFF 1 ∷ []))
+    (table (header 0x01 0 0 0) (bits 0 0x10 0 0 0 0 0 0) []) (listing (endedRecord 0 0x02 1 ∷ endedRecord 1 0xFF 1 ∷ []))
     ∷ lend (clear 0x05)
     ∷ enters (command 0 simple 0 1) (table (header 0x05 1 0 0) quiet (task 0 simple enabled 0 1 ∷ []))
     ∷ enters (command 1 simple 0 1) (table (header 0x05 2 0 0) quiet (task 0 simple enabled 0 1 ∷ task 1 simple enabled 0 1 ∷ []))
-    ∷ does (completion 0 0x02 1) (answerLine 0 0 0 0 0 2) (table (header 0x05 0 0 0) quiet []) (report (endedRecord 0 0x02 1 ∷ endedRecord 1 0x40 1 ∷ []))
+    ∷ does (completion 0 0x02 1) (answerLine 0 0 0 0 0 2) (table (header 0x05 0 0 0) quiet []) (listing (endedRecord 0 0x02 1 ∷ endedRecord 1 0x40 1 ∷ []))
     ∷ [])
 
 -- "G*: 0.1, 1.1, 0.2 S; ABORT TASK SET from 0: 0.1 and 0.2 FFh; 1.1 is first."
@@ -108,7 +108,7 @@ caseG =
     ∷ enters (command 0 simple 0 2)
     (table (header 0x00 3 0 0) quiet (task 0 simple enabled 0 1 ∷ task 1 simple enabled 0 1 ∷ task 0 simple enabled 0 2 ∷ []))
     ∷ does (management 0 2 0) (answerLine 0 0 0 0 0 2)
-    (table (header 0x00 1 0 0) quiet (task 1 simple enabled 0 1 ∷ [])) (report (endedRecord 0 0xFF 1 ∷ endedRecord 0 0xFF 2 ∷ []))
+    (table (header 0x00 1 0 0) quiet (task 1 simple enabled 0 1 ∷ [])) (listing (endedRecord 0 0xFF 1 ∷ endedRecord 0 0xFF 2 ∷ []))
     ∷ [])
 
 -- "H*: 0.1, 0.2 S; COMMAND 0.1: 7, Bh/4Eh/00h, both FFh, task count 0."
@@ -118,7 +118,7 @@ caseH =
     (enters (command 0 simple 0 1) (table (header 0x00 1 0 0) quiet (task 0 simple enabled 0 1 ∷ []))
     ∷ enters (command 0 simple 0 2) (table (header 0x00 2 0 0) quiet (task 0 simple enabled 0 1 ∷ task 0 simple enabled 0 2 ∷ []))
     ∷ does (command 0 simple 0 1) (answerLine 7 0x02 0x0B 0x4E 0x00 2) (table (header 0x00 0 0 0) quiet [])
-    (report (endedRecord 0 0xFF 1 ∷ endedRecord 0 0xFF 2 ∷ []))
+    (listing (endedRecord 0 0xFF 1 ∷ endedRecord 0 0xFF 2 ∷ []))
     ∷ [])
 
 -- "I*: completing a dormant task 6; an absent one 5; nexus 8 gives 4, 7 is taken; attribute 3, or 4 without ACA, 5h/49h/00h."

@@ -26,7 +26,7 @@ use Rattle.operations.specs.Operations.{Outcome, outcome, named, Started, start
 -- Cases ------------------------------------------------------------------------------------------------------------------------------------
 
 pub data After : Type 0 where
-  same : After
+  unchanged : After
   now : List ℕ → After
 
 pub data Move : Type 0 where
@@ -49,7 +49,7 @@ sameBytes (x ∷ xs) [] = false
 sameBytes (x ∷ xs) (y ∷ ys) = eqb x y && sameBytes xs ys
 
 abbrev holds : After → List ℕ → List ℕ → Bool
-holds same before after = sameBytes before after
+holds unchanged before after = sameBytes before after
 holds (now bytes) before after = sameBytes bytes after
 
 abbrev saidOf : Outcome → List ℕ

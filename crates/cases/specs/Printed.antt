@@ -9,7 +9,7 @@ use mathlib.Core.List.{List, [], _∷_}
 use lib.ListN.{length, take, drop}
 use Rattle.cases.specs.Makers.{headerWidth, nexusWidth, taskWidth, eventWidth, nexusPlace, taskPlace, tableLength, reportLength, zeros}
 use Rattle.cases.specs.Makers.{simple, headOfQueue, ordered, aca, dormant, enabled, blocked}
-use Rattle.cases.specs.Makers.{header, nexus, task, endedRecord, event, command, completion, management, condition, bits, table, report}
+use Rattle.cases.specs.Makers.{header, nexus, task, endedRecord, event, command, completion, management, condition, bits, table, listing}
 use Rattle.cases.specs.Play.{sameBytes}
 
 pub record Print : Type 0 where
@@ -42,7 +42,7 @@ printed =
     ∷ prints (part 0 headerWidth tableOfA) (0x54 ∷ 0x48 ∷ 0x01 ∷ 0x00 ∷ 0x01 ∷ 0x00 ∷ 0x00 ∷ 0x00 ∷ [])
     ∷ prints (part (taskPlace 0) taskWidth tableOfA) (0x54 ∷ 0x54 ∷ 0x02 ∷ 0x00 ∷ 0x02 ∷ 0x00 ∷ 0x00 ∷ 0x07 ∷ [])
     ∷ prints (part (taskPlace 63) taskWidth tableOfA) (0x54 ∷ 0x54 ∷ zeros 6)
-    ∷ prints (report (endedRecord 2 0x00 7 ∷ [])) (0x54 ∷ 0x45 ∷ 0x02 ∷ 0x00 ∷ 0x00 ∷ 0x00 ∷ 0x00 ∷ 0x07 ∷ zeros 504)
+    ∷ prints (listing (endedRecord 2 0x00 7 ∷ [])) (0x54 ∷ 0x45 ∷ 0x02 ∷ 0x00 ∷ 0x00 ∷ 0x00 ∷ 0x00 ∷ 0x07 ∷ zeros 504)
     ∷ prints (header 0x02 3 4 5) (0x54 ∷ 0x48 ∷ 0x01 ∷ 0x02 ∷ 0x03 ∷ 0x04 ∷ 0x05 ∷ 0x00 ∷ [])
     ∷ prints (nexus 1 2 0) (0x54 ∷ 0x4E ∷ 0x01 ∷ 0x02 ∷ 0x00 ∷ 0x00 ∷ 0x00 ∷ 0x00 ∷ [])
     ∷ prints (task 1 2 3 4 0x0506) (0x54 ∷ 0x54 ∷ 0x01 ∷ 0x02 ∷ 0x03 ∷ 0x04 ∷ 0x05 ∷ 0x06 ∷ [])
@@ -54,5 +54,5 @@ printed =
     ∷ prints (condition 5 6) (0x54 ∷ 0x56 ∷ 0x04 ∷ 0x05 ∷ 0x06 ∷ 0x00 ∷ 0x00 ∷ 0x00 ∷ [])
     ∷ prints (simple ∷ headOfQueue ∷ ordered ∷ aca ∷ []) (0 ∷ 1 ∷ 2 ∷ 4 ∷ [])
     ∷ prints (dormant ∷ enabled ∷ blocked ∷ []) (1 ∷ 2 ∷ 3 ∷ [])
-    ∷ prints (tableLength ∷ length tableOfA ∷ reportLength ∷ length (report []) ∷ eventWidth ∷ []) (584 ∷ 584 ∷ 512 ∷ 512 ∷ 8 ∷ [])
+    ∷ prints (tableLength ∷ length tableOfA ∷ reportLength ∷ length (listing []) ∷ eventWidth ∷ []) (584 ∷ 584 ∷ 512 ∷ 512 ∷ 8 ∷ [])
     ∷ []

@@ -9,8 +9,8 @@
 --   from t ms              := the case that begins with the table t and a report buffer of junk
 use Prim.Native.Nat.{ℕ}
 use mathlib.Core.List.{List, [], _∷_}
-use Rattle.cases.specs.Makers.{reportLength, report, junk}
-use Rattle.cases.specs.Play.{same, now, Move, apply, Case}
+use Rattle.cases.specs.Makers.{reportLength, listing, junk}
+use Rattle.cases.specs.Play.{unchanged, now, Move, apply, Case}
 
 abbrev pub answerLine : ℕ → ℕ → ℕ → ℕ → ℕ → ℕ → List ℕ
 answerLine a s k c q n = a ∷ s ∷ k ∷ c ∷ q ∷ n ∷ []
@@ -28,13 +28,13 @@ abbrev pub does : List ℕ → List ℕ → List ℕ → List ℕ → Move
 does e a t r = apply e a (now t) (now r)
 
 abbrev pub enters : List ℕ → List ℕ → Move
-enters e t = does e (answerLine 0 0 0 0 0 0) t (report [])
+enters e t = does e (answerLine 0 0 0 0 0 0) t (listing [])
 
 abbrev pub keeps : List ℕ → List ℕ → Move
-keeps e a = apply e a same (now (report []))
+keeps e a = apply e a unchanged (now (listing []))
 
 abbrev pub refuses : List ℕ → ℕ → Move
-refuses e n = apply e (answerLine n 0 0 0 0 0) same same
+refuses e n = apply e (answerLine n 0 0 0 0 0) unchanged unchanged
 
 abbrev pub from : List ℕ → List Move → Case
 from t ms = record { begins = t; buffer = junk reportLength; moves = ms }

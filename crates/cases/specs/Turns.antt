@@ -1,7 +1,7 @@
 -- Document 01, "Turn rule (house)".
 use mathlib.Core.List.{[], _∷_}
 use Rattle.cases.specs.Makers.{simple, headOfQueue, ordered, aca, dormant, enabled, blocked}
-use Rattle.cases.specs.Makers.{header, task, endedRecord, command, completion, quiet, table, report}
+use Rattle.cases.specs.Makers.{header, task, endedRecord, command, completion, quiet, table, listing}
 use Rattle.cases.specs.Shorthand.{answerLine, namesTask, nothing, does, enters, from}
 use Rattle.cases.specs.Play.{lend, name, Case}
 
@@ -12,23 +12,23 @@ caseK =
     (enters (command 1 headOfQueue 0 1) (table (header 0x00 2 0 0) quiet (task 0 simple enabled 0 1 ∷ task 1 headOfQueue enabled 0 1 ∷ []))
     ∷ name (namesTask 1 1)
     ∷ does (completion 1 0x00 1) (answerLine 0 0 0 0 0 1) (table (header 0x00 1 0 1) quiet (task 0 simple enabled 0 1 ∷ []))
-    (report (endedRecord 1 0x00 1 ∷ []))
+    (listing (endedRecord 1 0x00 1 ∷ []))
     ∷ enters (command 1 headOfQueue 0 2) (table (header 0x00 2 0 1) quiet (task 0 simple enabled 0 1 ∷ task 1 headOfQueue enabled 0 2 ∷ []))
     ∷ name (namesTask 1 2)
     ∷ does (completion 1 0x00 2) (answerLine 0 0 0 0 0 1) (table (header 0x00 1 0 2) quiet (task 0 simple enabled 0 1 ∷ []))
-    (report (endedRecord 1 0x00 2 ∷ []))
+    (listing (endedRecord 1 0x00 2 ∷ []))
     ∷ enters (command 1 headOfQueue 0 3) (table (header 0x00 2 0 2) quiet (task 0 simple enabled 0 1 ∷ task 1 headOfQueue enabled 0 3 ∷ []))
     ∷ name (namesTask 1 3)
     ∷ does (completion 1 0x00 3) (answerLine 0 0 0 0 0 1) (table (header 0x00 1 0 3) quiet (task 0 simple enabled 0 1 ∷ []))
-    (report (endedRecord 1 0x00 3 ∷ []))
+    (listing (endedRecord 1 0x00 3 ∷ []))
     ∷ enters (command 1 headOfQueue 0 4) (table (header 0x00 2 0 3) quiet (task 0 simple enabled 0 1 ∷ task 1 headOfQueue enabled 0 4 ∷ []))
     ∷ name (namesTask 1 4)
     ∷ does (completion 1 0x00 4) (answerLine 0 0 0 0 0 1) (table (header 0x00 1 0 4) quiet (task 0 simple enabled 0 1 ∷ []))
-    (report (endedRecord 1 0x00 4 ∷ []))
+    (listing (endedRecord 1 0x00 4 ∷ []))
     ∷ enters (command 1 headOfQueue 0 5) (table (header 0x00 2 0 4) quiet (task 0 simple enabled 0 1 ∷ task 1 headOfQueue enabled 0 5 ∷ []))
     ∷ name (namesTask 0 1)
     ∷ does (completion 0 0x00 1) (answerLine 0 0 0 0 0 1)
-    (table (header 0x00 1 0 0) quiet (task 1 headOfQueue enabled 0 5 ∷ [])) (report (endedRecord 0 0x00 1 ∷ []))
+    (table (header 0x00 1 0 0) quiet (task 1 headOfQueue enabled 0 5 ∷ [])) (listing (endedRecord 0 0x00 1 ∷ []))
     ∷ name (namesTask 1 5)
     ∷ [])
 
@@ -39,7 +39,7 @@ runStaysFour =
     from (table (header 0x00 2 0 4) quiet (task 1 headOfQueue enabled 0 1 ∷ task 0 simple dormant 0 1 ∷ []))
     (name (namesTask 1 1)
     ∷ does (completion 1 0x00 1) (answerLine 0 0 0 0 0 1) (table (header 0x00 1 0 4) quiet (task 0 simple enabled 0 1 ∷ []))
-    (report (endedRecord 1 0x00 1 ∷ []))
+    (listing (endedRecord 1 0x00 1 ∷ []))
     ∷ [])
 
 -- "to 0 if SIMPLE or ORDERED": an ORDERED task's turn
@@ -47,7 +47,7 @@ abbrev pub orderedTurn : Case
 orderedTurn =
     from (table (header 0x00 1 0 3) quiet (task 0 ordered enabled 0 1 ∷ []))
     (name (namesTask 0 1)
-    ∷ does (completion 0 0x00 1) (answerLine 0 0 0 0 0 1) (table (header 0x00 0 0 0) quiet []) (report (endedRecord 0 0x00 1 ∷ []))
+    ∷ does (completion 0 0x00 1) (answerLine 0 0 0 0 0 1) (table (header 0x00 0 0 0) quiet []) (listing (endedRecord 0 0x00 1 ∷ []))
     ∷ [])
 
 -- "Other completions .. leave it.": 1.1 H is enabled and not named
@@ -56,7 +56,7 @@ headOutOfTurn =
     from (table (header 0x00 2 0 1) quiet (task 0 headOfQueue enabled 0 1 ∷ task 1 headOfQueue enabled 0 1 ∷ []))
     (name (namesTask 0 1)
     ∷ does (completion 1 0x00 1) (answerLine 0 0 0 0 0 1)
-    (table (header 0x00 1 0 1) quiet (task 0 headOfQueue enabled 0 1 ∷ [])) (report (endedRecord 1 0x00 1 ∷ []))
+    (table (header 0x00 1 0 1) quiet (task 0 headOfQueue enabled 0 1 ∷ [])) (listing (endedRecord 1 0x00 1 ∷ []))
     ∷ [])
 
 -- DECISIONS, "Turn and run": "the CHECK CONDITION that sets up an ACA is a turn and sets run"
@@ -65,7 +65,7 @@ failedTurn =
     from (table (header 0x00 2 0 0) quiet (task 1 headOfQueue enabled 1 1 ∷ task 0 simple dormant 0 1 ∷ []))
     (name (namesTask 1 1)
     ∷ does (completion 1 0x02 1) (answerLine 0 0 0 0 0 1) (table (header 0x00 1 2 1) quiet (task 0 simple dormant 0 1 ∷ []))
-    (report (endedRecord 1 0x02 1 ∷ []))
+    (listing (endedRecord 1 0x02 1 ∷ []))
     ∷ [])
 
 -- "With ACA: the ACA task, else nothing.": not the blocked HEAD OF QUEUE task
