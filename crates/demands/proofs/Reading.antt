@@ -1,20 +1,20 @@
 -- What bytes say of the event, the report and the table that they write: kinds and names.
-use Prim.Native.Nat.{ℕ, zero, suc, _/_, _%_}
+use Prim.Native.Nat.{ℕ, zero, suc}
 use mathlib.Core.Path.{_≡_, refl, ap, sym, _∙_}
 use mathlib.Core.List.{List, [], _∷_, _++_, map}
 use native.Mathlib.Omega.{arith}
-use lib.ListN.{length, getD, drop}
+use lib.ListN.{length, getD, drop, replicate}
 use Rattle.laws.specs.RecordsInLists.{joined}
-use Rattle.octets.specs.Sizes.{firstOffset}
+use Rattle.octets.specs.Sizes.{firstOffset, tagOffset}
 use Rattle.rules.specs.Rulings.{State, taskName, endedName}
 use Rattle.rules.specs.Rules.{attributeOf, newTask}
 use Rattle.rules.proofs.NewTasks.{new-task-attribute}
 use Rattle.rules.proofs.WellKept.{Tested}
-use Rattle.records.specs.Numbers.{attributeNumber}
+use Rattle.records.specs.Numbers.{attributeNumber, tagIn, tagBytes}
 use Rattle.records.specs.Records.{taskSize, endedBytes}
 use Rattle.records.specs.Tables.{tasksFrom, stateOf, tableBytes, reportBytes}
 use Rattle.records.specs.Events.{eventOf, askedNumber}
-use Rattle.records.proofs.Values.{tag-back}
+use Rattle.octets.proofs.Tags.{tag-back}
 use Rattle.records.proofs.ReadBack.{state-back-again}
 use Rattle.records.proofs.EventsSay.{event-fields}
 use Rattle.rules.specs.Types.{Aca, Asked, Known, NoneOfFour, Entry, Command, Completion, Management, Condition, Ended, Named}
@@ -23,9 +23,9 @@ use Rattle.demands.specs.Seen.{kindOf, eventName, namesFrom, presentIn}
 
 -- Events -----------------------------------------------------------------------------------------------------------------------------------
 
-name-of : {n m g k : ℕ} → n ≡ m → g / 256 ≡ k / 256 → g % 256 ≡ k % 256
+name-of : {n m g k : ℕ} → n ≡ m → tagIn (replicate tagOffset 0 ++ tagBytes g) ≡ tagIn (replicate tagOffset 0 ++ tagBytes k)
     → _≡_ {A = Named} (record { nexus = n; tag = g }) (record { nexus = m; tag = k })
-name-of {g = g} {k = k} p hi lo = let q : g ≡ k = omega arith in λ i. record { nexus = p i; tag = q i }
+name-of {g = g} {k = k} p t = let q : g ≡ k = sym (tag-back g) ∙ t ∙ tag-back k in λ i. record { nexus = p i; tag = q i }
 
 -- by what is read: the record's kind, and whom it names
 abbrev pub Reads : EventRead → List ℕ → Type 0
@@ -42,9 +42,9 @@ module _ (e : List ℕ) where
   pub event-reads : (o : EventRead) → eventOf e ≡ o → Reads o e
   event-reads Unreadable q = tt
   event-reads (Readable (Command c)) q =
-      let l = event-fields e (Command c) q in (field 2 l, name-of (field 3 l) (field 6 l) (field 7 l))
+      let l = event-fields e (Command c) q in (field 2 l, name-of (field 3 l) (ap tagIn l))
   event-reads (Readable (Completion n g f)) q =
-      let l = event-fields e (Completion n g f) q in (field 2 l, name-of (field 3 l) (field 6 l) (field 7 l))
+      let l = event-fields e (Completion n g f) q in (field 2 l, name-of (field 3 l) (ap tagIn l))
   event-reads (Readable (Management n f)) q = field 2 (event-fields e (Management n f) q)
   event-reads (Readable (Condition h)) q = field 2 (event-fields e (Condition h) q)
 

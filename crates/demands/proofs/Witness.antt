@@ -9,6 +9,7 @@ use Rattle.rules.specs.Tasks.{whoseTurn}
 use Rattle.rules.specs.Rulings.{fresh}
 use Rattle.rules.specs.Rules.{newTask, enter, complete, ruleFor, ruling}
 use Rattle.rules.specs.Well.{wellFormed}
+use Rattle.records.specs.Numbers.{tagBytes}
 use Rattle.records.specs.Events.{eventFrom, eventOf}
 use Rattle.records.specs.Tables.{tableSize, reportSize, countIn, tasksFrom, pendingsFrom, stateOf, nexusRecords, unusedRecords, tableWith, tableBytes, reportBytes, nexusesFit, tasksFit, unusedFit, goodTable}
 use Rattle.operations.specs.Operations.{outcome, named, started}
@@ -18,10 +19,10 @@ use Rattle.demands.specs.Seen.{eventName, presentIn, isAccepted, listedB
 
 -- a COMMAND of nexus n with tag g, attribute a, exempt; a COMPLETION with GOOD; a piece that is too short to be an event
 abbrev command : ℕ → ℕ → ℕ → Call
-command n g a = record { event = 0x54 ∷ 0x56 ∷ 1 ∷ n ∷ a ∷ 2 ∷ 0 ∷ g ∷ []; report = replicate reportSize 0xEE }
+command n g a = record { event = 0x54 ∷ 0x56 ∷ 1 ∷ n ∷ a ∷ 2 ∷ tagBytes g; report = replicate reportSize 0xEE }
 
 abbrev completion : ℕ → ℕ → Call
-completion n g = record { event = 0x54 ∷ 0x56 ∷ 2 ∷ n ∷ 0 ∷ 0 ∷ 0 ∷ g ∷ []; report = replicate reportSize 0xEE }
+completion n g = record { event = 0x54 ∷ 0x56 ∷ 2 ∷ n ∷ 0 ∷ 0 ∷ tagBytes g; report = replicate reportSize 0xEE }
 
 abbrev short : Call
 short = record { event = 0x54 ∷ 0x56 ∷ []; report = [] }

@@ -8,14 +8,15 @@ use native.Mathlib.Omega.{arith}
 use borrow.Author.Tests.{ne-eqb, ltb-true, ltb-false}
 use lib.Dec.{eqb, ltb}
 use lib.ListN.{length, getD, take, drop, set, replicate, getD-replicate, length-take, drop-of-length-le, List·getD-append}
-use lib.Seq.{drop-set-lt, take-suc-set, slice, slice-cons, getD-take, getD-drop, getD-append-add}
+use lib.Seq.{drop-set-lt, take-suc-set, slice, slice-cons, getD-drop, getD-append-add}
 use Rattle.laws.specs.Lists.{any}
 use Rattle.laws.proofs.Bools.{split}
 use Rattle.octets.specs.Sizes.{nexusOffset}
+use Rattle.octets.proofs.Tags.{tag-low}
 use Rattle.rules.specs.Tasks.{places}
 use Rattle.records.specs.Records.{taskSize}
 use Rattle.records.specs.Tables.{Bytes}
-use Rattle.records.proofs.Good.{bytes-drop}
+use Rattle.records.proofs.Good.{bytes-drop, bytes-take}
 use Rattle.inspect.specs.TableTest.{keysFrom, spareKey, Spared}
 
 pub keys-long : (n : ℕ) (l : List ℕ) → length (keysFrom n l) ≡ n
@@ -35,7 +36,7 @@ keys-low : (n : ℕ) (l : List ℕ) → Bytes l → (i : ℕ) → i < n → getD
 unfolding keysFrom
 keys-low zero l b i h = absurd (omega arith)
 keys-low (suc n) l b zero h =
-    rw (getD-take taskSize l nexusOffset 0 (omega arith), getD-take taskSize l 6 0 (omega arith), getD-take taskSize l 7 0 (omega arith)) (omega (arith, b 2, b 6, b 7))
+    omega (arith, bytes-take l taskSize b nexusOffset, tag-low (take taskSize l) (bytes-take l taskSize b))
 keys-low (suc n) l b (suc i) h = keys-low n (drop taskSize l) (bytes-drop l taskSize b) i (omega arith)
 
 pub noted-spared :

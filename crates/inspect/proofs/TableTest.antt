@@ -11,7 +11,8 @@ use borrow.Author.Tests.{eqb-true, eqb-false, eq-eqb, ne-eqb, lt-ltb, lt-leb, le
 use Rattle.laws.specs.Lists.{any, isNil}
 use Rattle.laws.specs.RecordsInLists.{recordAt}
 use Rattle.laws.proofs.Bools.{and-true, or-false, split}
-use Rattle.octets.specs.Sizes.{headSize, taskSize, tasksAt, tableSize, nexusesAt, countOffset, acaOffset, runOffset, nexusOffset}
+use Rattle.octets.specs.Sizes.{headSize, taskSize, tasksAt, tableSize, nexusesAt, countOffset, acaOffset, runOffset, nexusOffset, tagBound}
+use Rattle.octets.proofs.Tags.{tag-low}
 use Rattle.rules.specs.Tasks.{places, nexuses, same}
 use Rattle.rules.specs.Well.{statesFit, faultFits, distinct, tooHigh, wellFormed}
 use Rattle.rules.proofs.WellParts.{well-formed-parts}
@@ -19,7 +20,7 @@ use Rattle.records.specs.Numbers.{tagIn, acaFrom}
 use Rattle.records.specs.Records.{headerFrom, headerFits, taskFrom, taskFits}
 use Rattle.records.specs.Tables.{countIn, Bytes, tasksFrom, stateOf, nexusesFit, tasksFit, unusedFit, goodTable}
 use Rattle.records.proofs.TaskRecords.{task-nexus-low}
-use Rattle.records.proofs.Good.{length-tasks-from, length-pendings-from, header-good, bytes-drop}
+use Rattle.records.proofs.Good.{length-tasks-from, length-pendings-from, header-good, bytes-drop, bytes-take}
 use Rattle.decide.specs.OlderTasks.{noOlder, behindBy, fitsBy, fitBy}
 use Rattle.decide.proofs.OlderTasks.{fit-walk}
 use Rattle.rules.specs.Types.{Task, Allegiance}
@@ -73,13 +74,13 @@ nexuses-low (suc n) l e =
 -- Names as numbers -------------------------------------------------------------------------------------------------------------------------
 
 abbrev bigTag : Task → Bool
-bigTag t = leb 65536 (t .tag)
+bigTag t = leb tagBound (t .tag)
 
 tags-fit : (n : ℕ) (l : List ℕ) → Bytes l → any bigTag (tasksFrom n l) ≡ false
 unfolding tasksFrom
 tags-fit zero l b = refl
 tags-fit (suc n) l b =
-    rw (lt-leb 65536 (tagIn (take taskSize l)) (rw (getD-take taskSize l 6 0 (omega arith), getD-take taskSize l 7 0 (omega arith)) (omega (arith, b 6, b 7))))
+    rw (lt-leb tagBound (tagIn (take taskSize l)) (tag-low (take taskSize l) (bytes-take l taskSize b)))
     (tags-fit n (drop taskSize l) (λ i. rw getD-drop (b (taskSize + i))))
 
 keys-are : (n : ℕ) (l : List ℕ) → keysFrom n l ≡ map keyOf (tasksFrom n l)
@@ -99,8 +100,8 @@ key-same t u p q =
   where
     apart-keys : keyOf t ≡ keyOf u → same (t .nexus) (t .tag) u ≡ false → ⊥
     apart-keys k e =
-        let gt = leb-false 65536 (t .tag) p in
-        let gu = leb-false 65536 (u .tag) q in
+        let gt = leb-false tagBound (t .tag) p in
+        let gu = leb-false tagBound (u .tag) q in
         let n : u .nexus ≡ t .nexus = omega arith in
         let g : u .tag ≡ t .tag = omega arith in
         let both : same (t .nexus) (t .tag) u ≡ true = rw (eq-eqb (u .nexus) (t .nexus) n, eq-eqb (u .tag) (t .tag) g) in

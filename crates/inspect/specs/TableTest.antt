@@ -16,6 +16,7 @@ use lib.Dec.{eqb}
 use lib.ListN.{length, getD, take, drop}
 use Rattle.laws.specs.Lists.{any}
 use Rattle.laws.specs.RecordsInLists.{recordAt}
+use Rattle.octets.specs.Sizes.{tagBound}
 use Rattle.rules.specs.Tasks.{places, nexuses}
 use Rattle.records.specs.Records.{headSize, taskSize, headerFrom, headerFits, taskFrom, taskFits}
 use Rattle.records.specs.Tables.{tableSize, nexusesAt, tasksAt, countIn, nexusesFit, unusedFit}
@@ -31,7 +32,7 @@ usedFit (suc n) aca o l =
     && usedFit n aca (behindBy ((taskFrom (take taskSize l)) .attribute) o) (drop taskSize l))
 
 abbrev pub keyOf : Task → ℕ
-keyOf t = t .nexus * 65536 + t .tag
+keyOf t = t .nexus * tagBound + t .tag
 
 unfoldable pub keysFrom : ℕ → List ℕ → List ℕ
 keysFrom zero l = []
@@ -42,7 +43,7 @@ keysApart [] = true
 keysApart (k ∷ ks) = not (any (eqb k) ks) && keysApart ks
 
 abbrev pub spareKey : ℕ
-spareKey = 0x0100_0000
+spareKey = 256 * tagBound
 
 pub record Spared (ks : List ℕ) (n : ℕ) : Type 0 where
   pub low : (i : ℕ) → i < n → getD ks i 0 < spareKey

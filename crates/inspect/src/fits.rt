@@ -19,6 +19,7 @@ use records::tasks::unlike_unused;
 use values::Allegiance;
 use values::NEXUSES;
 use values::PLACES;
+use values::TAG_MAX;
 use values::Tag;
 ghost use mathlib.Core.Path.{_≡_};
 ghost use mathlib.Core.List.{[], _∷_, _++_};
@@ -26,7 +27,7 @@ ghost use lib.Dec.{eqb};
 ghost use Prim.Native.Nat.{_+_, _-_, _*_, _≤_};
 ghost use lib.ListN.{length, take, drop};
 ghost use Rattle.laws.specs.Lists.{any};
-ghost use Rattle.octets.specs.Sizes.{nexusesAt, taskSize, tasksAt, tableSize};
+ghost use Rattle.octets.specs.Sizes.{nexusesAt, taskSize, tasksAt, tableSize, tagBound};
 ghost use Rattle.rules.specs.Tasks.{places, nexuses};
 ghost use Rattle.decide.specs.OlderTasks.{noOlder};
 ghost use Rattle.records.specs.Tables.{nexusesFit, unusedFit, goodTable};
@@ -35,10 +36,15 @@ ghost use Rattle.inspect.specs.TableTest.{usedFit, keysFrom, keysApart, 
 // Nexus and tag as one number.
 pub type Key = u32;
 
+// Tags are below it.
+const TAG_BOUND: Key = (TAG_MAX as Key) + 1;
+
+const SPARE_KEY: Key = 256 * TAG_BOUND;
+
 fn key_of(n: u8, g: Tag) -> Key
-    ensures { λ r. ⌜ r ≡ n * 65536 + g ⌝ }
+    ensures { λ r. ⌜ r ≡ n * tagBound + g ⌝ }
 {
-    (n as u32) * 65536 + (g as u32)
+    (n as Key) * TAG_BOUND + (g as Key)
 }
 
 fn nexuses_fit(t: &[u8]) -> bool
@@ -136,7 +142,7 @@ fn names_fit(t: &[u8], n: usize) -> bool
     requires { ⌜ (length (now t) ≡ tableSize) × (n ≤ places) ⌝ }
     ensures { λ r. ⌜ r ≡ keysApart (keysFrom n (drop tasksAt (now (t .entry)))) ⌝ }
 {
-    let mut keys: [Key; 68] = [0x0100_0000; 68];
+    let mut keys: [Key; 68] = [SPARE_KEY; 68];
     note_keys(t, n, &mut keys);
     distinct(&keys, n)
 }

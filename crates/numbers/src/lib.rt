@@ -1,5 +1,6 @@
 // Answers in document 01's numbers, laid out as C reads them.
 use values::Answer;
+use values::Tag;
 use values::Turn;
 ghost use mathlib.Core.Path.{_≡_};
 ghost use Rattle.numbers.specs.Boundary.{numbersOf, turnInNumbers};
@@ -19,7 +20,7 @@ pub struct NamedTurn {
     pub answer: u8,
     pub found: bool,
     pub nexus: u8,
-    pub tag: u16,
+    pub tag: Tag,
 }
 
 fn only(answer: u8, ended: u8) -> Answered

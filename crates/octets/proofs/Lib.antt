@@ -1,2 +1,3 @@
 pub mod PrintedSizes
 pub mod Widths
+pub mod Tags

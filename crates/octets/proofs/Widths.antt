@@ -2,6 +2,7 @@
 use Prim.Native.Nat.{ℕ, zero, suc, _+_, _≤_, _<_}
 use mathlib.Core.Path.{_≡_, refl, ap, sym, _∙_}
 use mathlib.Core.List.{List, [], _∷_, append-assoc}
+use native.Mathlib.Nat.{add-zero}
 use native.Mathlib.Numerals.{add-one}
 use native.Mathlib.Omega.{arith}
 use lib.ListN.{length, getD, take, drop, set, length-set, length-drop}
@@ -19,6 +20,15 @@ take-bytes (suc n) (x ∷ l) h = ap (λ (z : List ℕ). x ∷ z) (take-bytes n l
 
 pub record-bytes : (w : ℕ) (l : List ℕ) (at : ℕ) → at + w ≤ length l → recordAt w l at ≡ tabled w (λ i. getD l (at + i) 0)
 record-bytes w l at h = take-bytes w (drop at l) (simp length-drop (omega arith)) ∙ simp getD-drop
+
+-- the bytes of a record, as code lists them
+abbrev pub oneByOne : ℕ → List ℕ → ℕ → List ℕ
+oneByOne zero l at = []
+oneByOne (suc w) l at = getD l at 0 ∷ tabled w (λ i. getD l (at + suc i) 0)
+
+pub one-by-one : (w : ℕ) (l : List ℕ) (at : ℕ) → at + w ≤ length l → oneByOne w l at ≡ recordAt w l at
+one-by-one zero l at h = refl
+one-by-one (suc w) l at h = sym (rw add-zero at (record-bytes (suc w) l at h))
 
 -- of the record of b at a place the first k bytes are read into r
 pub record Loading (w : ℕ) (b : List ℕ) (at : ℕ) (r : List ℕ) (k : ℕ) : Type 0 where

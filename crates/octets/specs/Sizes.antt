@@ -2,6 +2,7 @@
 -- law or function of the library says them. That they come to the paper's 8, 584 and 512 is proved (proofs/PrintedSizes).
 --
 --   untaggedSize, taggedSize  := the width of a header or nexus record; of one that names a task: a task, ended or event record
+--   tagOffset, tagSize, tagBound  := where such a record has its tag, how many bytes that is, and what every tag is below
 --   headSize, nexusSize, taskSize, endedSize, eventSize   := the widths by kind
 --   nexusesAt, tasksAt        := where the nexus records and the task records begin in a table
 --   tableSize, reportSize     := how long a table and a report are
@@ -10,15 +11,25 @@
 --   nexusOffset, attributeOffset, stateOffset, controlOffset  := where a task record has nexus, attribute, state and control
 --   attributesAt, statesAt    := where the first task record of a table has attribute and state
 --   kindOffset, senderOffset, firstOffset, secondOffset  := where an event record has kind, nexus, first and second
-use Prim.Native.Nat.{ℕ, _+_, _*_}
+use Prim.Native.Nat.{ℕ, _+_, _*_, _^_}
 use Rattle.values.specs.Limits.{places, nexuses}
 
 -- "Every record is 8 bytes"
 abbrev pub untaggedSize : ℕ
 untaggedSize = 8
 
+-- "task | 54 54 | nexus; attribute; state; control (bit 0 NACA); tag, 2 bytes"; the tag ends an ended and an event record too
+abbrev pub tagOffset : ℕ
+tagOffset = 6
+
+abbrev pub tagSize : ℕ
+tagSize = 2
+
+abbrev pub tagBound : ℕ
+tagBound = 256 ^ tagSize
+
 abbrev pub taggedSize : ℕ
-taggedSize = 8
+taggedSize = tagOffset + tagSize
 
 abbrev pub headSize : ℕ
 headSize = untaggedSize

@@ -3,12 +3,14 @@ pub mod sizes;
 pub mod tagged;
 pub mod untagged;
 
+use crate::sizes::TAG_OFFSET;
 use crate::sizes::TAGGED_SIZE;
 use crate::sizes::UNTAGGED_SIZE;
 use values::Tag;
 ghost use mathlib.Core.Path.{_≡_};
-ghost use Prim.Native.Nat.{_+_, _≤_, _/_, _%_};
-ghost use Rattle.octets.specs.Bytes.{flag, bitOf, tagFrom, tagIn, isMark};
+ghost use mathlib.Core.List.{_∷_};
+ghost use Prim.Native.Nat.{_+_, _*_, _≤_};
+ghost use Rattle.octets.specs.Bytes.{flag, bitOf, tagIn, tagBytes, isMark};
 ghost use Rattle.octets.specs.Words.{halfOf, FourBytes, IsWord};
 
 // The first two bytes of a record, of whatever width.
@@ -47,25 +49,20 @@ pub fn bit_of(n: u8, d: u8) -> bool
 }
 
 fn tag_from(hi: u8, lo: u8) -> Tag
-    ensures { λ y. ⌜ y ≡ tagFrom hi lo ⌝ }
+    ensures { λ y. ⌜ y ≡ hi * 256 + lo ⌝ }
 {
-    (hi as u16) * 256 + (lo as u16)
+    (hi as Tag) * 256 + (lo as Tag)
 }
 
 pub fn tag_in(r: [u8; TAGGED_SIZE]) -> Tag
     ensures { λ y. ⌜ y ≡ tagIn r ⌝ }
 {
-    tag_from(r[6], r[7])
+    tag_from(r[TAG_OFFSET], r[TAG_OFFSET + 1])
 }
 
-pub fn tag_high(g: Tag) -> u8
-    ensures { λ y. ⌜ y ≡ g / 256 ⌝ }
+// A record of this mark, these four bytes and this tag.
+pub fn tagged_bytes(m: u8, a: u8, b: u8, c: u8, d: u8, g: Tag) -> [u8; TAGGED_SIZE]
+    ensures { λ y. ⌜ y ≡ 0x54 ∷ m ∷ a ∷ b ∷ c ∷ d ∷ tagBytes g ⌝ }
 {
-    (g / 256) as u8
-}
-
-pub fn tag_low(g: Tag) -> u8
-    ensures { λ y. ⌜ y ≡ g % 256 ⌝ }
-{
-    (g % 256) as u8
+    [0x54, m, a, b, c, d, (g / 256) as u8, (g % 256) as u8]
 }

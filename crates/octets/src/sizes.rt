@@ -7,7 +7,11 @@ use values::PLACES;
 pub const UNTAGGED_SIZE: usize = 8;
 
 // Records that name a task: task, ended and event records.
-pub const TAGGED_SIZE: usize = 8;
+pub const TAG_OFFSET: usize = 6;
+
+pub const TAG_SIZE: usize = 2;
+
+pub const TAGGED_SIZE: usize = TAG_OFFSET + TAG_SIZE;
 
 pub const HEAD_SIZE: usize = UNTAGGED_SIZE;
 

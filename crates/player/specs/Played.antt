@@ -1,6 +1,6 @@
 -- What the player writes for event bytes, piece by piece.
 --
---   pieces n              := how many pieces n bytes make: eights, and a shorter last one
+--   pieces n              := how many pieces n bytes make: whole records, and a shorter last one
 --   Run                   := the lines written, and the table and the report buffer afterwards
 --   behind ls p           := the run p with the lines ls before its own
 --   played n t r es       := the run over the first n pieces of es, from the table t and the report buffer r

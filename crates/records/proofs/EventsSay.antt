@@ -17,7 +17,8 @@ use Rattle.records.specs.Records.{eventSize, marked}
 use Rattle.records.specs.Tables.{Bytes}
 use Rattle.records.specs.Events.{readIf, askedFrom, commandFrom, finishFrom, completionFrom, functionFrom, managementFrom, happeningFrom, conditionFrom, eventFrom, eventOf, eventLine, askedNumber, secondNumber, finishNumber, functionNumber, functionTag, happeningNumber, happeningNexus, eventRecord, eventBytes, SpareAttribute, SpareFunction, Spare, IsEvent}
 use Rattle.octets.proofs.Widths.{record-bytes}
-use Rattle.records.proofs.Values.{attribute-back, attribute-good, attribute-fits, flag-good, tag-back, tag-high-good, tag-low-good}
+use Rattle.records.proofs.Values.{attribute-back, attribute-good, attribute-fits, flag-good}
+use Rattle.octets.proofs.Tags.{tag-good, tag-back}
 
 -- Written, then read -----------------------------------------------------------------------------------------------------------------------
 
@@ -239,7 +240,7 @@ event-is-written e v by =
     bytes : length e ≡ eventSize → getD e 0 0 ≡ 0x54 → getD e 1 0 ≡ 0x56 → e ≡ eventLine (getD e 2 0) (getD e 3 0) a (getD e 5 0) g
     bytes l m n =
         sym (take-all eventSize e (omega arith)) ∙ record-bytes eventSize e 0 (omega arith)
-        ∙ rw (m, n, tag-high-good (getD e 6 0) (getD e 7 0) (by 7), tag-low-good (getD e 6 0) (getD e 7 0) (by 7))
+        ∙ rw (m, n, tag-good (λ i. getD e i 0) by)
 
 -- "Anything else is a bad event, as is a length other than 8": answer 3 exactly where the bytes are no event record
 pub bad-event-says : (e : List ℕ) → Bytes e → (eventOf e ≡ Unreadable) ↔ (IsEvent e → ⊥)

@@ -18,10 +18,11 @@ use Rattle.values.specs.Headers.{mostRun}
 use Rattle.rules.specs.Tasks.{places, nexuses}
 use Rattle.rules.specs.Well.{wellFormed}
 use Rattle.rules.proofs.WellKept.{Tested, to-tested}
-use Rattle.records.specs.Numbers.{attributeFits, stateFits, policyFits, pendingFits}
+use Rattle.records.specs.Numbers.{tagIn, attributeFits, stateFits, policyFits, pendingFits}
 use Rattle.records.specs.Records.{headerBytes, headerFrom, headerFits, nexusBytes, nexusFits, pendingIn, taskBytes, taskFrom, taskFits, unusedBytes, unusedFits}
 use Rattle.records.specs.Tables.{Bytes, tasksFrom, pendingsFrom, countIn, stateOf, nexusRecords, unusedRecords, tableWith, tableBytes, nexusesFit, tasksFit, unusedFit, goodTable}
-use Rattle.records.proofs.Values.{attribute-good, state-good, flag-good, aca-good, policy-good, pending-good, tag-high-good, tag-low-good}
+use Rattle.records.proofs.Values.{attribute-good, state-good, flag-good, aca-good, policy-good, pending-good}
+use Rattle.octets.proofs.Tags.{tag-good, tag-none}
 
 -- One record -------------------------------------------------------------------------------------------------------------------------------
 
@@ -58,29 +59,28 @@ module _ (a0 a1 a2 a3 a4 a5 a6 a7 : ℕ) where
       let o1 = and-true (eqb a0 0x54) (eqb a1 0x4E) (o2 .0) in
       rw (pending-good a3 (o3 .1), eqb-true a0 0x54 (o1 .0), eqb-true a1 0x4E (o1 .1), eqb-true a2 i (o2 .1), eqb-true a4 0 (o4 .1), eqb-true a5 0 (o5 .1), eqb-true a6 0 (o6 .1), eqb-true a7 0 (o7 .1))
 
-module _ (a0 a1 a2 a3 a4 a5 a6 a7 : ℕ) where
+module _ (f : ℕ → ℕ) where
   abbrev tagged : List ℕ
-  tagged = a0 ∷ a1 ∷ a2 ∷ a3 ∷ a4 ∷ a5 ∷ a6 ∷ a7 ∷ []
+  tagged = tabled taskSize f
 
-  task-bytes-good : a7 < 256 → taskFits tagged ≡ true → taskBytes (taskFrom tagged) ≡ tagged
-  task-bytes-good low e =
-      let o5 = and-true _ (ltb a5 2) e in
-      let o4 = and-true _ (stateFits a4) (o5 .0) in
-      let o3 = and-true _ (attributeFits a3) (o4 .0) in
-      let o2 = and-true _ (ltb a2 nexuses) (o3 .0) in
-      let o1 = and-true (eqb a0 0x54) (eqb a1 0x54) (o2 .0) in
-      rw (attribute-good a3 (o3 .1), state-good a4 (o4 .1), flag-good a5 (ltb-true a5 2 (o5 .1)), tag-high-good a6 a7 low, tag-low-good a6 a7 low, eqb-true a0 0x54 (o1 .0), eqb-true a1 0x54 (o1 .1))
+  task-bytes-good : ((i : ℕ) → f i < 256) → taskFits tagged ≡ true → taskBytes (taskFrom tagged) ≡ tagged
+  task-bytes-good bytes e =
+      let o5 = and-true _ (ltb (f 5) 2) e in
+      let o4 = and-true _ (stateFits (f 4)) (o5 .0) in
+      let o3 = and-true _ (attributeFits (f 3)) (o4 .0) in
+      let o2 = and-true _ (ltb (f 2) nexuses) (o3 .0) in
+      let o1 = and-true (eqb (f 0) 0x54) (eqb (f 1) 0x54) (o2 .0) in
+      rw (attribute-good (f 3) (o3 .1), state-good (f 4) (o4 .1), flag-good (f 5) (ltb-true (f 5) 2 (o5 .1)), tag-good f bytes, eqb-true (f 0) 0x54 (o1 .0), eqb-true (f 1) 0x54 (o1 .1))
 
   unused-bytes-good : unusedFits tagged ≡ true → unusedBytes ≡ tagged
   unused-bytes-good e =
-      let o7 = and-true _ (eqb a7 0) e in
-      let o6 = and-true _ (eqb a6 0) (o7 .0) in
-      let o5 = and-true _ (eqb a5 0) (o6 .0) in
-      let o4 = and-true _ (eqb a4 0) (o5 .0) in
-      let o3 = and-true _ (eqb a3 0) (o4 .0) in
-      let o2 = and-true _ (eqb a2 0) (o3 .0) in
-      let o1 = and-true (eqb a0 0x54) (eqb a1 0x54) (o2 .0) in
-      rw (eqb-true a0 0x54 (o1 .0), eqb-true a1 0x54 (o1 .1), eqb-true a2 0 (o2 .1), eqb-true a3 0 (o3 .1), eqb-true a4 0 (o4 .1), eqb-true a5 0 (o5 .1), eqb-true a6 0 (o6 .1), eqb-true a7 0 (o7 .1))
+      let o6 = and-true _ (eqb (tagIn tagged) 0) e in
+      let o5 = and-true _ (eqb (f 5) 0) (o6 .0) in
+      let o4 = and-true _ (eqb (f 4) 0) (o5 .0) in
+      let o3 = and-true _ (eqb (f 3) 0) (o4 .0) in
+      let o2 = and-true _ (eqb (f 2) 0) (o3 .0) in
+      let o1 = and-true (eqb (f 0) 0x54) (eqb (f 1) 0x54) (o2 .0) in
+      rw (eqb-true (f 0) 0x54 (o1 .0), eqb-true (f 1) 0x54 (o1 .1), eqb-true (f 2) 0 (o2 .1), eqb-true (f 3) 0 (o3 .1), eqb-true (f 4) 0 (o4 .1), eqb-true (f 5) 0 (o5 .1), ← tag-none f (eqb-true (tagIn tagged) 0 (o6 .1)))
 
 -- the same of the first bytes of a list
 by-bytes : (w : ℕ) (P : List ℕ → Type 0) (l : List ℕ) → w ≤ length l → P (tabled w (λ i. getD l i 0)) → P (take w l)
@@ -97,15 +97,21 @@ module _ (l : List ℕ) where
   nexus-good long i = by-bytes nexusSize (λ r. nexusFits i r ≡ true → nexusBytes i (pendingIn r) 0 ≡ r) l long (nexus-bytes-good _ _ _ _ _ _ _ _ i)
 
   pub task-good : taskSize ≤ length l → Bytes l → taskFits (take taskSize l) ≡ true → taskBytes (taskFrom (take taskSize l)) ≡ take taskSize l
-  task-good long b = by-bytes taskSize (λ r. taskFits r ≡ true → taskBytes (taskFrom r) ≡ r) l long (task-bytes-good _ _ _ _ _ _ _ _ (b 7))
+  task-good long b = by-bytes taskSize (λ r. taskFits r ≡ true → taskBytes (taskFrom r) ≡ r) l long (task-bytes-good (λ i. getD l i 0) b)
 
   pub unused-good : taskSize ≤ length l → unusedFits (take taskSize l) ≡ true → unusedBytes ≡ take taskSize l
-  unused-good long = by-bytes taskSize (λ r. unusedFits r ≡ true → unusedBytes ≡ r) l long (unused-bytes-good _ _ _ _ _ _ _ _)
+  unused-good long = by-bytes taskSize (λ r. unusedFits r ≡ true → unusedBytes ≡ r) l long (unused-bytes-good (λ i. getD l i 0))
 
 -- Many records -----------------------------------------------------------------------------------------------------------------------------
 
 pub bytes-drop : (l : List ℕ) (n : ℕ) → Bytes l → Bytes (drop n l)
 bytes-drop l n b i = rw (getD-drop) (b (n + i))
+
+pub bytes-take : (l : List ℕ) (n : ℕ) → Bytes l → Bytes (take n l)
+bytes-take l zero b i = omega arith
+bytes-take [] (suc n) b i = b i
+bytes-take (x ∷ l) (suc n) b zero = b 0
+bytes-take (x ∷ l) (suc n) b (suc i) = bytes-take l n (λ j. b (suc j)) i
 
 -- one record of width w written, and the rest of the list as it was
 one-more : (w : ℕ) (r written l : List ℕ) (n : ℕ) → r ≡ take w l → written ++ drop (w * n) (drop w l) ≡ drop w l

@@ -14,7 +14,8 @@ use Rattle.rules.specs.Types.{Task, Pending}
 use Rattle.records.specs.Numbers.{acaNumber}
 use Rattle.records.specs.Records.{headerBytes, headerFrom, taskBytes, taskFrom}
 use Rattle.records.specs.Tables.{tasksFrom, pendingsFrom, countIn, stateOf, nexusRecords, unusedRecords, taskRecords, tableWith, countsOf, tableBytes}
-use Rattle.records.proofs.Values.{attribute-back, state-back, flag-back, aca-back, policy-back, pending-back, tag-back}
+use Rattle.records.proofs.Values.{attribute-back, state-back, flag-back, aca-back, policy-back, pending-back}
+use Rattle.octets.proofs.Tags.{tag-back}
 
 pub task-back : (t : Task) → taskFrom (taskBytes t) ≡ t
 task-back t = rw (attribute-back (t .attribute), state-back (t .state), flag-back (t .naca), tag-back (t .tag))

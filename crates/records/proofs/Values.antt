@@ -1,14 +1,13 @@
 -- A value's number gives the value back, and a good number its value's number.
-use Prim.Native.Nat.{ℕ, zero, suc, _+_, _-_, _/_, _%_, _<_, _≤_}
+use Prim.Native.Nat.{ℕ, zero, suc, _+_, _-_, _%_, _<_, _≤_}
 use mathlib.Core.Bool.{Bool, true, false, _||_, _&&_, not}
 use mathlib.Core.Path.{_≡_, refl, sym}
 use native.Mathlib.Omega.{arith}
-use native.Mathlib.Nat.{div-add-mod'}
 use lib.Dec.{eqb, ltb}
 use borrow.Author.Tests.{eqb-true, eqb-false, ne-eqb, ltb-true}
 use Rattle.laws.proofs.Bools.{and-true, or-true, not-both, split}
 use Rattle.rules.specs.Types.{Attribute, Simple, HeadOfQueue, Ordered, Aca, TaskState, Dormant, Enabled, Blocked, Qerr, EndNone, EndAll, EndNexus, Policy, Allegiance, Clear, Faulted, Pending}
-use Rattle.records.specs.Numbers.{flag, tagFrom, attributeNumber, attributeFits, attributeFrom, stateNumber, stateFits, stateFrom, acaNumber, acaFrom, policyNumber, policyFits, policyFrom, pendingNumber, pendingFits, pendingFrom}
+use Rattle.records.specs.Numbers.{flag, attributeNumber, attributeFits, attributeFrom, stateNumber, stateFits, stateFrom, acaNumber, acaFrom, policyNumber, policyFits, policyFrom, pendingNumber, pendingFits, pendingFrom}
 
 -- Tests that are computed once -------------------------------------------------------------------------------------------------------------
 
@@ -173,12 +172,3 @@ pub pending-good : (n : ℕ) → pendingFits n ≡ true → pendingNumber (pendi
 pending-good n e =
     eqb-true (pendingNumber (pendingFrom n)) n
     (below-at 32 (λ m. eqb (pendingNumber (pendingFrom m)) m) refl n (ltb-true n 32 e))
-
-pub tag-high-good : (hi lo : ℕ) → lo < 256 → tagFrom hi lo / 256 ≡ hi
-tag-high-good hi lo h = omega arith
-
-pub tag-low-good : (hi lo : ℕ) → lo < 256 → tagFrom hi lo % 256 ≡ lo
-tag-low-good hi lo h = omega arith
-
-pub tag-back : (g : ℕ) → tagFrom (g / 256) (g % 256) ≡ g
-tag-back g = div-add-mod' g 256

@@ -9,7 +9,7 @@ use lib.ListN.{length, getD, take}
 use lib.Seq.{take-all}
 use borrow.Author.Tests.{eqb-true, eq-eqb, ltb-true, lt-ltb}
 use Rattle.laws.proofs.Bools.{and-true, same-truth}
-use Rattle.records.specs.Numbers.{pendingNumber}
+use Rattle.records.specs.Numbers.{tagIn, pendingNumber}
 use Rattle.records.specs.Records.{nexusSize, taskSize, nexusBytes, pendingIn, nexusFits, unusedBytes, unusedFits}
 use Rattle.octets.specs.Words.{IsWord}
 use Rattle.records.proofs.Values.{pending-fits}
@@ -29,8 +29,7 @@ module _ (r : List ℕ) (w : ℕ) (i : IsWord r w) where
         eq-eqb (getD r 3 0) 0 (omega arith),
         eq-eqb (getD r 4 0) 0 (omega arith),
         eq-eqb (getD r 5 0) 0 (omega arith),
-        eq-eqb (getD r 6 0) 0 (omega arith),
-        eq-eqb (getD r 7 0) 0 (omega arith),
+        eq-eqb (tagIn r) 0 (omega arith),
       )
       refl
 

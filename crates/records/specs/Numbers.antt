@@ -3,11 +3,11 @@
 --   attributeNumber, stateNumber, acaNumber, qerrNumber, policyNumber, pendingNumber   := the byte of a value
 --   attributeFrom, stateFrom, acaFrom, policyFrom, pendingFrom   := the value of a byte; of one that the tests refuse, any
 --   attributeFits, stateFits, policyFits, pendingFits   := the byte has a value
---   flag, bitOf, tagFrom, tagIn, tagBytes := passed on from octets/specs/Bytes
+--   flag, bitOf, tagIn, tagBytes := passed on from octets/specs/Bytes
 use Prim.Native.Nat.{ℕ, _+_, _-_, _*_, _%_}
 use mathlib.Core.Bool.{Bool, cond, _||_, _&&_, not}
 use lib.Dec.{eqb, ltb}
-pub use Rattle.octets.specs.Bytes.{flag, bitOf, tagFrom, tagIn, tagBytes}
+pub use Rattle.octets.specs.Bytes.{flag, bitOf, tagIn, tagBytes}
 use Rattle.rules.specs.Types.{Attribute, TaskState, Qerr, Policy, Allegiance, Pending}
 
 -- "Attributes: 0 SIMPLE, 1 HEAD OF QUEUE, 2 ORDERED, 4 ACA."

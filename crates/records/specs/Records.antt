@@ -80,12 +80,11 @@ taskFits r =
 
 -- "Unused ones are 54 54 and six zeros."
 abbrev pub unusedBytes : List ℕ
-unusedBytes = 0x54 ∷ 0x54 ∷ 0 ∷ 0 ∷ 0 ∷ 0 ∷ 0 ∷ 0 ∷ []
+unusedBytes = 0x54 ∷ 0x54 ∷ 0 ∷ 0 ∷ 0 ∷ 0 ∷ tagBytes 0
 
 abbrev pub unusedFits : List ℕ → Bool
 unusedFits r =
-    marked r 0x54 && eqb (getD r 2 0) 0 && eqb (getD r 3 0) 0 && eqb (getD r 4 0) 0 && eqb (getD r 5 0) 0 && eqb (getD r 6 0) 0
-    && eqb (getD r 7 0) 0
+    marked r 0x54 && eqb (getD r 2 0) 0 && eqb (getD r 3 0) 0 && eqb (getD r 4 0) 0 && eqb (getD r 5 0) 0 && eqb (tagIn r) 0
 
 -- "ended | 54 45 | nexus; status; 0 0; tag"
 abbrev pub endedBytes : Ended → List ℕ

@@ -7,9 +7,8 @@ use octets::sizes::ENDED_SIZE;
 use octets::sizes::NEXUS_OFFSET;
 use octets::sizes::STATE_OFFSET;
 use octets::sizes::TASK_SIZE;
-use octets::tag_high;
 use octets::tag_in;
-use octets::tag_low;
+use octets::tagged_bytes;
 use octets::word_of;
 use values::Attribute;
 use values::NEXUS_BOUND;
@@ -102,16 +101,14 @@ pub fn task_bytes(t: Task) -> [u8; TASK_SIZE]
 {
     let a = t.attribute;
     let s = t.state;
-    [
-        0x54,
+    tagged_bytes(
         0x54,
         t.nexus,
         attribute_number(a),
         state_number(s),
         flag_byte(t.naca),
-        tag_high(t.tag),
-        tag_low(t.tag),
-    ]
+        t.tag,
+    )
 }
 
 // 0 where the record is an unused one. As a number, so that of many records the compiler looks at several at once.
@@ -124,12 +121,12 @@ pub fn unlike_unused(r: [u8; TASK_SIZE]) -> u64
 pub fn unused_bytes() -> [u8; TASK_SIZE]
     ensures { λ y. ⌜ y ≡ unusedBytes ⌝ }
 {
-    [0x54, 0x54, 0, 0, 0, 0, 0, 0]
+    tagged_bytes(0x54, 0, 0, 0, 0, 0)
 }
 
 // The ended record of a task, by its nexus, the status to send and its tag.
 pub fn ended_bytes(n: u8, status: u8, g: Tag) -> [u8; ENDED_SIZE]
     ensures { λ y. ⌜ y ≡ endedBytes (record { nexus = n; status = status; tag = g }) ⌝ }
 {
-    [0x54, 0x45, n, status, 0, 0, tag_high(g), tag_low(g)]
+    tagged_bytes(0x45, n, status, 0, 0, g)
 }

@@ -18,6 +18,8 @@ pub const MOST_TASKS: u8 = 64;
 // Document 01 gives tags two bytes; this is the one place that says so to the rules.
 pub type Tag = u16;
 
+pub const TAG_MAX: Tag = u16::MAX;
+
 pub enum Attribute {
     Simple,
     HeadOfQueue,

@@ -1,8 +1,6 @@
 use borrow.Author.Needs.{needs}
-use mathlib.Core.Path.{sym}
-use native.Mathlib.Nat.{add-zero}
 use Rattle.octets.specs.Sizes.{taggedSize}
-use Rattle.octets.proofs.Widths.{record-bytes}
+use Rattle.octets.proofs.Widths.{one-by-one}
 use Rattle.octets.proofs.tagged.get_tagged.Statement.{statement}
 use Rattle.octets.proofs.tagged.get_tagged.Tie as tie
 
@@ -13,6 +11,4 @@ get-tagged-spec =
     (λ c. search needs) (λ c. search needs) (λ c. search needs) (λ c. search needs) (λ c. search needs) (λ c. search needs)
     (λ c. search needs) (λ c. search needs) (λ c. search needs) (λ c. search needs) (λ c. search needs) (λ c. search needs)
     (λ c. search needs) (λ c. search needs) (λ c. search needs)
-    (λ c.
-    let start = c .before .before .before .before .before .before .before .before in
-    sym (rw add-zero at (record-bytes taggedSize (start .args .b .now) (start .args .at) (start .pre)))))
+    (λ c. search (needs, one-by-one taggedSize)))

@@ -6,5 +6,5 @@ pub task-bytes-spec : {M : Type 1} → statement M
 task-bytes-spec =
     tie.close
     (tie.spec
-    (λ c κs. search needs) (λ c κs. search needs) (λ c κs. search needs) (λ c κs. search needs) (λ c κs. search needs)
-    (λ c. simp (c .tag-low .ensures, c .before .tag-high .ensures, c .before .before .flag-byte .ensures .0, c .before .before .before .state-number .ensures, c .before .before .before .before .attribute-number .ensures)))
+    (λ c κs. search needs) (λ c κs. search needs) (λ c κs. search needs) (λ c κs. search needs)
+    (λ c. simp (c .tagged-bytes .ensures, c .before .flag-byte .ensures .0, c .before .before .state-number .ensures, c .before .before .before .attribute-number .ensures)))
