@@ -2,10 +2,9 @@
 use carry::change::change;
 use inspect::fits::table_fits;
 use octets::sizes::REPORT_SIZE;
-use octets::untagged::get_untagged;
 use records::events::EventRead;
 use records::events::event_of;
-use records::header::header_from;
+use records::header::header_in;
 use report::zero_rest;
 use ruling::rule::nexus_of;
 use ruling::rule::rule;
@@ -75,7 +74,7 @@ fn on_event(t: &mut [u8], report: &mut [u8], e: Event) -> Applied
     requires { ⌜ (goodTable (now t) ≡ true) × (length (now report) ≡ reportSize) × (nexusOf e < nexuses) ⌝ }
     ensures { λ a. ⌜ AppliedAs (carried (now (t .entry)) (now (report .entry)) (stateOf (now (t .entry))) (ruling (stateOf (now (t .entry))) e)) a (now (t .exit)) (now (report .exit)) ⌝ }
 {
-    let h = header_from(get_untagged(t, 0));
+    let h = header_in(t);
     let r = rule(t, h, e);
     carry_out(t, report, h, r)
 }

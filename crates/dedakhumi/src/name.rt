@@ -1,8 +1,7 @@
 // Name the task whose turn it is.
 use find::turn_in;
 use inspect::fits::table_fits;
-use octets::untagged::get_untagged;
-use records::header::header_from;
+use records::header::header_in;
 use values::Answer;
 use values::Naming;
 use values::Turn;
@@ -16,7 +15,7 @@ fn turn_of_table(t: &[u8]) -> Turn
     requires { ⌜ goodTable (now t) ≡ true ⌝ }
     ensures { λ r. ⌜ r ≡ turn (stateOf (now (t .entry))) ⌝ }
 {
-    let h = header_from(get_untagged(t, 0));
+    let h = header_in(t);
     let aca = h.aca;
     let n = h.count as usize;
     turn_in(t, n, aca, h.run)

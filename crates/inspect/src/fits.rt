@@ -11,7 +11,7 @@ use octets::tagged::get_tagged;
 use octets::tagged::load_tagged;
 use octets::untagged::load_untagged;
 use records::header::header_fits;
-use records::header::header_from;
+use records::header::header_in;
 use records::nexus::nexus_fits;
 use records::tasks::task_fits;
 use records::tasks::task_from;
@@ -165,7 +165,7 @@ pub fn table_fits(t: &[u8]) -> bool
     if !header_fits(r) {
         return false;
     }
-    let h = header_from(r);
+    let h = header_in(t);
     let aca = h.aca;
     records_fit(t, h.count as usize, aca)
 }

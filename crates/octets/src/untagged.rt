@@ -6,24 +6,7 @@ ghost use lib.ListN.{length};
 ghost use Rattle.laws.specs.RecordsInLists.{recordAt, putAt};
 ghost use Rattle.octets.specs.Sizes.{untaggedSize};
 
-// One by one, so that the compiler reads those that are used.
-pub fn get_untagged(b: &[u8], at: usize) -> [u8; UNTAGGED_SIZE]
-    requires { ⌜ at + untaggedSize ≤ length (now b) ⌝ }
-    ensures { λ r. ⌜ r ≡ recordAt untaggedSize (now (b .entry)) at ⌝ }
-{
-    [
-        b[at],
-        b[at + 1],
-        b[at + 2],
-        b[at + 3],
-        b[at + 4],
-        b[at + 5],
-        b[at + 6],
-        b[at + 7],
-    ]
-}
-
-// The same in a loop, which the compiler makes one reading of: for records of which every byte is looked at.
+// In a loop, which the compiler makes one reading of: of these records every byte is looked at.
 pub fn load_untagged(b: &[u8], at: usize) -> [u8; UNTAGGED_SIZE]
     requires { ⌜ at + untaggedSize ≤ length (now b) ⌝ }
     ensures { λ r. ⌜ r ≡ recordAt untaggedSize (now (b .entry)) at ⌝ }

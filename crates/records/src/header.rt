@@ -17,8 +17,10 @@ ghost use mathlib.Core.Path.{_≡_};
 ghost use Prim.Native.Nat.{_+_, _≤_};
 ghost use Rattle.rules.specs.Well.{faultFits};
 ghost use mathlib.Core.Bool.{true};
+ghost use lib.ListN.{length};
+ghost use Rattle.laws.specs.RecordsInLists.{recordAt};
 ghost use Rattle.records.specs.Numbers.{acaNumber, acaFrom, qerrNumber, qerrFrom, policyNumber, policyFits, policyFrom};
-ghost use Rattle.records.specs.Records.{headerBytes, headerFrom, headerFits};
+ghost use Rattle.records.specs.Records.{headSize, headerBytes, headerFrom, headerFits};
 
 pub fn policy_fits(n: u8) -> bool
     ensures { λ y. ⌜ y ≡ policyFits n ⌝ }
@@ -94,14 +96,16 @@ pub fn header_fits(r: [u8; HEAD_SIZE]) -> bool
         & (r[7] == 0)
 }
 
-pub fn header_from(r: [u8; HEAD_SIZE]) -> Header
-    ensures { λ y. ⌜ y ≡ headerFrom r ⌝ }
+// What the header of a lent table says; only the bytes that say it are read.
+pub fn header_in(t: &[u8]) -> Header
+    requires { ⌜ headSize ≤ length (now t) ⌝ }
+    ensures { λ y. ⌜ y ≡ headerFrom (recordAt headSize (now (t .entry)) 0) ⌝ }
 {
     Header {
-        policy: policy_from(r[POLICY_OFFSET]),
-        count: r[COUNT_OFFSET],
-        aca: aca_from(r[ACA_OFFSET]),
-        run: r[RUN_OFFSET],
+        policy: policy_from(t[POLICY_OFFSET]),
+        count: t[COUNT_OFFSET],
+        aca: aca_from(t[ACA_OFFSET]),
+        run: t[RUN_OFFSET],
     }
 }
 

@@ -82,9 +82,9 @@ searched-ruling-is b e g l = rule-for b e (good-tested b g) l ∙ sym (ruling-lo
 pub good-few : (b : List ℕ) → goodTable b ≡ true → (stateOf b) .header .count ≤ places
 good-few b e = omega (arith, good-tested b e .counted, good-tested b e .few)
 
-pub header-read : (b r : List ℕ) (h : Header) → r ≡ recordAt headSize b 0 → h ≡ headerFrom r → h ≡ (stateOf b) .header
+pub header-read : (b : List ℕ) (h : Header) → h ≡ headerFrom (recordAt headSize b 0) → h ≡ (stateOf b) .header
 unfolding stateOf
-header-read b r h e f = f ∙ ap headerFrom e
+header-read b h e = e
 
 tasks-counted : (b : List ℕ) → tasksFrom ((stateOf b) .header .count) (drop tasksAt b) ≡ (stateOf b) .tasks
 unfolding stateOf

@@ -11,19 +11,18 @@ turn-of-table-spec =
     tie.close
     (tie.spec
     (λ c κs. omega (arith, table-tested (c .before .args .t .now) (c .before .pre) .long))
-    (λ c κs. search needs) (λ c. search needs)
+    (λ c. search needs)
     (λ c κs.
     let read = c .before in
-    let start = read .before .before .before in
+    let start = read .before .before in
     let t = start .args .t .now in (
       table-tested t (start .pre) .long,
-      rw (header-read t (read .before .get-untagged .result) (read .header-from .result) (read .before .get-untagged .ensures) (read .header-from .ensures))
-          (good-few t (start .pre)),
+      rw (header-read t (read .header-in .result) (read .header-in .ensures)) (good-few t (start .pre)),
     ))
     (λ c.
     let read = c .before .before in
-    let start = read .before .before .before in
+    let start = read .before .before in
     let t = start .args .t .now in
-    let h = read .header-from .result in
+    let h = read .header-in .result in
     c .turn-in .ensures
-    ∙ turn-read t h (start .pre) (header-read t (read .before .get-untagged .result) h (read .before .get-untagged .ensures) (read .header-from .ensures))))
+    ∙ turn-read t h (start .pre) (header-read t h (read .header-in .ensures))))

@@ -31,14 +31,14 @@ records-fit-requires c κs =
     let read = fits .before .before in
     let long = read .before in (
       long .if1 .left,
-      rw (c .before .header-from .ensures)
+      rw (c .before .header-in .ensures, ← read .load-untagged .ensures)
           (count-fits (long .before .before .args .t .now) (read .load-untagged .result) (read .load-untagged .ensures) (long .if1 .left)
           (sym (header .ensures) ∙ not-false (header .result) (fits .if2 .left))),
     )
 
 returns-3 : tie.Need-returns-3
 returns-3 c =
-    let value = c .before .before .header-from in
+    let value = c .before .before .header-in in
     let fits = c .before .before .before in
     let header = fits .before .header-fits in
     let read = fits .before .before in
@@ -46,11 +46,11 @@ returns-3 c =
     let lent = long .before in
     by-tests (lent .before .args .t .now) (read .load-untagged .result) (read .load-untagged .ensures) (λ i. (lent .shared-slice-known .given i) .fits) _
     (rw (eq-eqb _ _ (long .if1 .left), ← header .ensures, not-false (header .result) (fits .if2 .left))
-    (rw (value .ensures) at (c .records-fit .ensures)))
+    (rw (value .ensures, ← read .load-untagged .ensures) at (c .records-fit .ensures)))
 
 pub table-fits-spec : {M : Type 1} → statement M
 table-fits-spec =
     tie.close
     (tie.spec
-    returns (λ c κs. search needs) (λ c κs. search needs) returns-2 (λ c κs. search needs) (λ c. search needs) records-fit-requires
+    returns (λ c κs. search needs) (λ c κs. search needs) returns-2 (λ c κs. omega arith) (λ c. search needs) records-fit-requires
     returns-3)
