@@ -39,6 +39,7 @@ pub type Key = u32;
 // Tags are below it.
 const TAG_BOUND: Key = (TAG_MAX as Key) + 1;
 
+// No task has it: its nexus would be 256.
 const SPARE_KEY: Key = 256 * TAG_BOUND;
 
 fn key_of(n: u8, g: Tag) -> Key

@@ -6,7 +6,7 @@ use values::PLACES;
 // Header and nexus records.
 pub const UNTAGGED_SIZE: usize = 8;
 
-// Records that name a task: task, ended and event records.
+// Records that name a task, which end with its tag: task, ended and event records.
 pub const TAG_OFFSET: usize = 6;
 
 pub const TAG_SIZE: usize = 2;
