@@ -1,13 +1,12 @@
-# The commands of README.md: make, make test, make bench, make install PREFIX=... [DESTDIR=...], make clean.
-# What is made stands in build/. `rt` works in target/, which `rt ci` removes; build/ holds copies of what is to stay.
+# The commands of README.md: make, make test, make bench, make install PREFIX=... [DESTDIR=...], make uninstall (with the same), make clean.
+# What is made stands in build/: include/ and lib/ for a driver, bin/ for people, tests/ for the rest. `rt` works in target/, which `rt ci` removes;
+# build/ holds copies of what is to stay.
 SHELL := /bin/bash
 .SHELLFLAGS := -eu -o pipefail -c
 .DELETE_ON_ERROR:
 # Two runs of rt at a time would both write to target/.
 .NOTPARALLEL:
 
-# 0 until the customer's change requests are in, which change lengths and layouts; then the landing of the base.
-VERSION := 0.3.0
 PREFIX ?= /usr/local
 DESTDIR ?=
 
@@ -15,12 +14,14 @@ DESTDIR ?=
 ifeq ($(shell uname -m),x86_64)
 CC := gcc
 CXX := g++
+AR := ar
 RUN :=
 SANITIZED := -sanitized
 else
 CC := x86_64-linux-gnu-gcc -static
 # not -static: the cross libm.a is a linker script whose paths Debian leaves as they are on x86-64
 CXX := x86_64-linux-gnu-g++
+AR := x86_64-linux-gnu-ar
 RUN := qemu-x86_64 -L /usr/x86_64-linux-gnu
 SANITIZED :=
 endif
@@ -29,35 +30,52 @@ COMPILE_C = $(CC) -std=c11 $(WARNINGS) -Iinclude
 COMPILE_CXX = $(CXX) -std=c++17 $(WARNINGS) -Iinclude
 SANITIZE := -O1 -g -fsanitize=address,undefined -fno-sanitize-recover=all
 HEADER := include/dedakhumi.h
-ARCHIVE := build/libdedakhumi.a
-# for the scripts of tests/ and bench/
-export CC CXX RUN VERSION ARCHIVE
+ARCHIVE := build/lib/libdedakhumi.a
+# 0 until the customer's change requests are in, which change lengths and layouts.
+VERSION := $(shell sed -n 's/^.define DEDAKHUMI_VERSION "\(.*\)"$$/\1/p' $(HEADER))
+# for the scripts of package/, tests/ and bench/
+export CC CXX RUN VERSION HEADER ARCHIVE
 CRATES := crates.txt $(shell find crates -type f)
 
 .PHONY: all
-all: $(ARCHIVE) build/dedakhumi.h build/player
+all: $(ARCHIVE) build/include/dedakhumi.h build/bin/player build/bin/try build/bin/night
 
-$(ARCHIVE): $(CRATES)
+# Before the minutes of proving, not after them.
+.PHONY: tools
+tools:
+	@tests/need make
+
+# rt's own archive, kept apart so that a word changed in the header proves nothing anew.
+PROVED := build/tests/proved.a
+$(PROVED): $(CRATES) | tools
+	@echo "make: proves the library, crate by crate from the ground up, with a line for each; then the player. 4 to 7 minutes on two cores."
 	rt staticlib dedakhumi
-	@mkdir -p build
+	@mkdir -p $(@D)
 	cp target/staticlib/libdedakhumi.a $@
 
-build/player: $(CRATES)
+$(ARCHIVE): $(PROVED) package/interface.c $(HEADER)
+	@mkdir -p $(@D)
+	$(COMPILE_C) -O2 -fPIC -c package/interface.c -o build/tests/interface.o
+	cp $(PROVED) $@
+	$(AR) rs $@ build/tests/interface.o
+
+build/bin/player: $(CRATES)
 	rt check player
-	@mkdir -p build
+	@mkdir -p $(@D)
 	cp target/bin/player $@
 
-build/dedakhumi.h: $(HEADER)
-	@mkdir -p build
+build/include/dedakhumi.h: $(HEADER)
+	@mkdir -p $(@D)
 	cp $< $@
 
-.PHONY: install
-install: $(ARCHIVE) $(HEADER) dedakhumi.pc.in
-	$(if $(filter /%,$(PREFIX)),,$(error PREFIX has to be an absolute path))
-	install -d "$(DESTDIR)$(PREFIX)/include" "$(DESTDIR)$(PREFIX)/lib/pkgconfig"
-	install -m 644 $(HEADER) "$(DESTDIR)$(PREFIX)/include/"
-	install -m 644 $(ARCHIVE) "$(DESTDIR)$(PREFIX)/lib/"
-	sed -e 's|@PREFIX@|$(PREFIX)|' -e 's|@VERSION@|$(VERSION)|' dedakhumi.pc.in >"$(DESTDIR)$(PREFIX)/lib/pkgconfig/dedakhumi.pc"
+# By the environment and as they were given: a path may have any character, of make's and of the shell's too.
+export INSTALL_PREFIX := $(value PREFIX)
+export INSTALL_DESTDIR := $(value DESTDIR)
+.PHONY: install uninstall
+install: $(ARCHIVE)
+	package/install
+uninstall:
+	package/uninstall
 
 .PHONY: bench
 bench: $(ARCHIVE)
@@ -68,18 +86,20 @@ clean:
 	rm -rf build
 
 # A pattern that matches no file stays as it is, and make says that it has no rule for it: a missing source is an error.
-# $(call program,NAME,SOURCES,HEADERS,FLAGS) makes build/NAME and build/NAME-sanitized.
+# $(call program,FOLDER,NAME,SOURCES,HEADERS,FLAGS) makes build/FOLDER/NAME and build/tests/NAME-sanitized.
 define program
-build/$(1): $(2) $(ARCHIVE) $(HEADER) $(wildcard $(3))
-	$$(COMPILE_C) -O2 $(4) $$(filter %.c,$$^) $(ARCHIVE) -o $$@
-build/$(1)-sanitized: $(2) $(ARCHIVE) $(HEADER) $(wildcard $(3))
-	$$(COMPILE_C) $(SANITIZE) $(4) $$(filter %.c,$$^) $(ARCHIVE) -o $$@
+build/$(1)/$(2): $(3) $(ARCHIVE) $(HEADER) $(wildcard $(4))
+	@mkdir -p $$(@D)
+	$$(COMPILE_C) -O2 $(5) $$(filter %.c,$$^) $(ARCHIVE) -o $$@
+build/tests/$(2)-sanitized: $(3) $(ARCHIVE) $(HEADER) $(wildcard $(4))
+	@mkdir -p $$(@D)
+	$$(COMPILE_C) $(SANITIZE) $(5) $$(filter %.c,$$^) $(ARCHIVE) -o $$@
 endef
-$(eval $(call program,night,driver/*.c,driver/*.h,))
-$(eval $(call program,compare,tests/compare/*.c second/*.c,tests/compare/*.h second/*.h,-Isecond))
-$(eval $(call program,pages,tests/pages/*.c,tests/pages/*.h second/layout.h,-Isecond))
-$(eval $(call program,outside,tests/outside/*.c,tests/outside/*.h second/layout.h,-Isecond))
-$(eval $(call program,replay,tests/cases/*.c,tests/cases/*.h,))
+$(eval $(call program,bin,night,driver/*.c text/*.c,driver/*.h text/*.h,-Itext))
+$(eval $(call program,tests,compare,tests/compare/*.c second/*.c,tests/compare/*.h second/*.h,-Isecond))
+$(eval $(call program,tests,pages,tests/pages/*.c,tests/pages/*.h second/layout.h,-Isecond))
+$(eval $(call program,tests,outside,tests/outside/*.c,tests/outside/*.h second/layout.h,-Isecond))
+$(eval $(call program,tests,replay,tests/cases/*.c,tests/cases/*.h,))
 
 # One after the other, the quick ones first. The last line is that of `rt ci`: N passed, 0 failed.
 TESTS := need header crates names promises opened install driver outside pages cases compare
@@ -89,12 +109,12 @@ test:
 		echo "test: $$test"; \
 		$(MAKE) --no-print-directory "test-$$test" || { echo "make test: stopped, since the test '$$test' failed" >&2; exit 1; }; \
 	done
-	@mkdir -p build
-	@TMPDIR=$$(tests/room) rt ci 2>&1 | tee build/ci.log
+	@mkdir -p build/tests
+	@TMPDIR=$$(tests/room) rt ci 2>&1 | tee build/tests/ci.log
 
 .PHONY: $(TESTS:%=test-%)
 test-need:
-	tests/need
+	tests/need test
 
 # Alone in both languages, then the layouts.
 test-header:
@@ -112,7 +132,7 @@ test-names: tests/names
 test-install: $(ARCHIVE)
 	tests/install/run
 
-test-driver: build/night $(SANITIZED:%=build/night%)
+test-driver: build/bin/night $(SANITIZED:%=build/tests/night%)
 	tests/driver $(filter build/%,$^)
 
 # A script named faults tries its test on faulty versions; the emulator need not repeat that.
@@ -120,23 +140,23 @@ faults = $(if $(RUN),,$(wildcard tests/$(1)/faults))
 
 # FACTOR makes the comparison that many times as long.
 FACTOR ?= 1
-test-compare: build/compare $(SANITIZED:%=build/compare%) tests/compare/faults
-	$(RUN) build/compare $(FACTOR)
-	$(SANITIZED:%=build/compare% 0.2)
+test-compare: build/tests/compare $(SANITIZED:%=build/tests/compare%) tests/compare/faults
+	$(RUN) build/tests/compare $(FACTOR)
+	$(SANITIZED:%=build/tests/compare% 0.2)
 	$(if $(call faults,compare),tests/compare/faults $(ARCHIVE))
 
-test-pages: build/pages $(SANITIZED:%=build/pages%)
-	$(RUN) build/pages
-	$(SANITIZED:%=build/pages%)
+test-pages: build/tests/pages $(SANITIZED:%=build/tests/pages%)
+	$(RUN) build/tests/pages
+	$(SANITIZED:%=build/tests/pages%)
 	$(call faults,pages)
 
-test-outside: build/outside $(SANITIZED:%=build/outside%) tests/outside/*.txt
-	$(RUN) build/outside $(filter %.txt,$^)
-	$(SANITIZED:%=build/outside% $(filter %.txt,$^))
+test-outside: build/tests/outside $(SANITIZED:%=build/tests/outside%) tests/outside/*.txt
+	$(RUN) build/tests/outside $(filter %.txt,$^)
+	$(SANITIZED:%=build/tests/outside% $(filter %.txt,$^))
 	$(call faults,outside)
 
 # The cases over the archive, and what the program that plays them does with input that they don't have.
-test-cases: build/replay $(SANITIZED:%=build/replay%)
+test-cases: build/tests/replay $(SANITIZED:%=build/tests/replay%)
 	@for replay in $(abspath $^); do tests/cases/run $(RUN) "$$replay"; tests/cases/try-frames $(RUN) "$$replay"; done
 
 test-promises: tests/promises

@@ -13,7 +13,7 @@ void scene_aborts(struct box *box)
 {
 	trace_title("8. Aborts: one task, one host's tasks, everybody's; the others are told at their next command");
 	box_command(box, NORTH_MAPPER, ordered(write_of(12, 72)));
-	tag_number unwanted = box_command(box, WEST_MAPPER, read_of(12));
+	dedakhumi_tag unwanted = box_command(box, WEST_MAPPER, read_of(12));
 	box_command(box, YIELD_GATEWAY, read_of(12));
 	box_command(box, YIELD_GATEWAY, read_of(14));
 	box_command(box, KERNEL, read_of(12));
@@ -35,7 +35,7 @@ void scene_host_errors(struct box *box)
 {
 	trace_title("9. Hosts err: a tag used twice, an attribute that is none, attribute ACA without an ACA");
 	box_command(box, EAST_MAPPER, read_of(12));
-	tag_number twice = box_command(box, EAST_MAPPER, ordered(write_of(14, 67)));
+	dedakhumi_tag twice = box_command(box, EAST_MAPPER, ordered(write_of(14, 67)));
 	box_command(box, KERNEL, read_of(12));
 	box_command_tagged(box, EAST_MAPPER, twice, read_of(14));
 	struct request strange = read_of(12);

@@ -17,8 +17,8 @@ static void others_meet_the_aca(struct box *box)
 void scene_allegiance(struct box *box)
 {
 	trace_title("6. A write fails with NACA 1: an ACA for the south mapper, who repairs it and clears it");
-	tag_number failing = box_command(box, SOUTH_MAPPER, with_naca(write_of(13, 55)));
-	tag_number early = box_command(box, EAST_MAPPER, read_of(12));
+	dedakhumi_tag failing = box_command(box, SOUTH_MAPPER, with_naca(write_of(13, 55)));
+	dedakhumi_tag early = box_command(box, EAST_MAPPER, read_of(12));
 	box_command(box, WEST_MAPPER, ordered(write_of(14, 66)));
 	box_command(box, KERNEL, read_of(14));
 	box_disk_ends(box, SOUTH_MAPPER, failing, DEDAKHUMI_STATUS_CHECK_CONDITION);
@@ -38,7 +38,7 @@ void scene_allegiance(struct box *box)
 void scene_nexus_loss(struct box *box)
 {
 	trace_title("7. The weather gateway's cable is torn during its ACA: its tasks and its ACA go, and it is told when it comes back");
-	tag_number failing = box_command(box, WEATHER_GATEWAY, with_naca(write_of(15, 12)));
+	dedakhumi_tag failing = box_command(box, WEATHER_GATEWAY, with_naca(write_of(15, 12)));
 	box_command(box, WEATHER_GATEWAY, ordered(write_of(15, 13)));
 	box_command(box, KERNEL, read_of(12));
 	box_disk_ends(box, WEATHER_GATEWAY, failing, DEDAKHUMI_STATUS_CHECK_CONDITION);

@@ -34,7 +34,7 @@ static void add_disk_sense(struct word *word)
 	word->qualifier = 0x00;
 }
 
-static void pass_on_one(struct box *box, const struct ended *end)
+static void pass_on_one(struct box *box, const struct dedakhumi_ended *end)
 {
 	struct host *host = &box->hosts.host[end->nexus];
 	struct word word = {.nexus = end->nexus, .tag = end->tag, .status = end->status};
@@ -53,12 +53,12 @@ static void pass_on_one(struct box *box, const struct ended *end)
 void box_pass_on(struct box *box, unsigned ended)
 {
 	for (unsigned place = 0; place < ended; place++) {
-		struct ended end = ended_at(&box->port, place);
+		struct dedakhumi_ended end = ended_at(&box->port, place);
 		pass_on_one(box, &end);
 	}
 }
 
-struct dedakhumi_answer box_apply(struct box *box, const struct event *event, const char *detail)
+struct dedakhumi_answer box_apply(struct box *box, const struct dedakhumi_event *event, const char *detail)
 {
 	trace_before(&box->trace, &box->port);
 	struct dedakhumi_answer answer = port_apply(&box->port, event);

@@ -22,7 +22,7 @@ struct box {
 /* False if the policy is refused. */
 bool box_start(struct box *box, uint8_t policy);
 /* Applies the event, writes its line, sends on what the report says, and does what a refusal asks for. */
-struct dedakhumi_answer box_apply(struct box *box, const struct event *event, const char *detail);
+struct dedakhumi_answer box_apply(struct box *box, const struct dedakhumi_event *event, const char *detail);
 /* Sends on what the report says. */
 void box_pass_on(struct box *box, unsigned ended);
 /* Starts over after the table was found damaged: its tasks are lost, and the hosts will hear of a power on. */

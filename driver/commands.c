@@ -1,6 +1,8 @@
 #include "commands.h"
 
-static void hear_at_entry(struct box *box, uint8_t nexus, tag_number tag, struct request request, const struct dedakhumi_answer *answer)
+#include "wishes.h"
+
+static void hear_at_entry(struct box *box, uint8_t nexus, dedakhumi_tag tag, struct request request, const struct dedakhumi_answer *answer)
 {
 	struct word word = {.nexus = nexus, .tag = tag, .status = answer->status, .key = answer->key, .code = answer->code,
 		.qualifier = answer->qualifier};
@@ -9,9 +11,9 @@ static void hear_at_entry(struct box *box, uint8_t nexus, tag_number tag, struct
 		trace_note("the %s has too much to repeat, and gives this one up", host_name(nexus));
 }
 
-void box_command_tagged(struct box *box, uint8_t nexus, tag_number tag, struct request request)
+void box_command_tagged(struct box *box, uint8_t nexus, dedakhumi_tag tag, struct request request)
 {
-	struct event event = command_event(nexus, tag, request.attribute, request.control);
+	struct dedakhumi_event event = dedakhumi_command_event(nexus, tag, request.attribute, request.control);
 	struct host *host = &box->hosts.host[nexus];
 	struct text detail = {.used = 0};
 	add_request(&detail, &request);
@@ -26,9 +28,9 @@ void box_command_tagged(struct box *box, uint8_t nexus, tag_number tag, struct r
 		box->faults++;
 }
 
-tag_number box_command(struct box *box, uint8_t nexus, struct request request)
+dedakhumi_tag box_command(struct box *box, uint8_t nexus, struct request request)
 {
-	tag_number tag = host_next_tag(&box->hosts.host[nexus]);
+	dedakhumi_tag tag = host_next_tag(&box->hosts.host[nexus]);
 	box_command_tagged(box, nexus, tag, request);
 	return tag;
 }
@@ -48,26 +50,26 @@ void box_commands_again(struct box *box)
 		host_commands_again(box, nexus);
 }
 
-void box_abort_task(struct box *box, uint8_t nexus, tag_number tag)
+void box_abort_task(struct box *box, uint8_t nexus, dedakhumi_tag tag)
 {
-	struct event event = abort_task_event(nexus, tag);
+	struct dedakhumi_event event = dedakhumi_abort_task_event(nexus, tag);
 	box_apply(box, &event, "");
 }
 
 void box_function(struct box *box, uint8_t nexus, uint8_t function)
 {
-	struct event event = function_event(nexus, function);
+	struct dedakhumi_event event = dedakhumi_function_event(nexus, function);
 	box_apply(box, &event, "");
 }
 
 void box_nexus_loss(struct box *box, uint8_t nexus)
 {
-	struct event event = nexus_loss_event(nexus);
+	struct dedakhumi_event event = dedakhumi_nexus_loss_event(nexus);
 	box_apply(box, &event, "");
 }
 
 void box_reset(struct box *box, uint8_t condition)
 {
-	struct event event = reset_event(condition);
+	struct dedakhumi_event event = dedakhumi_reset_event(condition);
 	box_apply(box, &event, "");
 }

@@ -5,11 +5,11 @@
 #include "box.h"
 
 /* With the host's next tag, which is returned. */
-tag_number box_command(struct box *box, uint8_t nexus, struct request request);
-void box_command_tagged(struct box *box, uint8_t nexus, tag_number tag, struct request request);
+dedakhumi_tag box_command(struct box *box, uint8_t nexus, struct request request);
+void box_command_tagged(struct box *box, uint8_t nexus, dedakhumi_tag tag, struct request request);
 /* Each host sends what it was asked to send again, once. */
 void box_commands_again(struct box *box);
-void box_abort_task(struct box *box, uint8_t nexus, tag_number tag);
+void box_abort_task(struct box *box, uint8_t nexus, dedakhumi_tag tag);
 void box_function(struct box *box, uint8_t nexus, uint8_t function);
 void box_nexus_loss(struct box *box, uint8_t nexus);
 void box_reset(struct box *box, uint8_t condition);

@@ -9,7 +9,7 @@ const char *host_name(unsigned nexus)
 	return nexus < DEDAKHUMI_NEXUSES ? names[nexus] : "stranger";
 }
 
-tag_number host_next_tag(struct host *host)
+dedakhumi_tag host_next_tag(struct host *host)
 {
 	return ++host->last_tag;
 }

@@ -7,14 +7,14 @@
 /* What is sent to a host for one command: a status, with sense if it is CHECK CONDITION. */
 struct word {
 	uint8_t nexus;
-	tag_number tag;
+	dedakhumi_tag tag;
 	uint8_t status, key, code, qualifier;
 };
 
 #define HOST_AGAIN 16
 
 struct host {
-	tag_number last_tag;
+	dedakhumi_tag last_tag;
 	/* `silent`: ends for which nothing was sent */
 	unsigned sent, accepted, ended, silent;
 	unsigned heard[256];
@@ -27,7 +27,7 @@ struct hosts {
 };
 
 const char *host_name(unsigned nexus);
-tag_number host_next_tag(struct host *host);
+dedakhumi_tag host_next_tag(struct host *host);
 void host_hears(struct hosts *hosts, const struct word *word);
 /* Whether a host sends the same command again after this word: the box was busy, or had something else to tell first. */
 bool is_worth_repeating(const struct word *word);

@@ -13,14 +13,14 @@ enum { YIELD_GATEWAY = 4, KERNEL = 7, STRANGER = DEDAKHUMI_NEXUSES, CDB_CONTROL_
 /* The CDB's control byte has NACA in bit 2; in an event record it is bit 0, and bit 2 has to be 0. */
 static void copy_control_byte(struct box *box)
 {
-	struct event event = command_event(YIELD_GATEWAY, 9000, DEDAKHUMI_ATTRIBUTE_SIMPLE, CDB_CONTROL_NACA);
+	struct dedakhumi_event event = dedakhumi_command_event(YIELD_GATEWAY, 9000, DEDAKHUMI_ATTRIBUTE_SIMPLE, CDB_CONTROL_NACA);
 	box_apply(box, &event, "with the CDB's control byte");
 	box_command_tagged(box, YIELD_GATEWAY, 9000, with_naca(read_of(12)));
 }
 
 static void serve_a_stranger(struct box *box)
 {
-	struct event event = command_event(STRANGER, 1, DEDAKHUMI_ATTRIBUTE_SIMPLE, 0);
+	struct dedakhumi_event event = dedakhumi_command_event(STRANGER, 1, DEDAKHUMI_ATTRIBUTE_SIMPLE, 0);
 	box_apply(box, &event, "");
 }
 
@@ -28,7 +28,7 @@ static void serve_a_stranger(struct box *box)
 static void lend_a_short_report(struct box *box)
 {
 	struct port before = box->port;
-	struct event event = completion_event(YIELD_GATEWAY, 9000, DEDAKHUMI_STATUS_GOOD);
+	struct dedakhumi_event event = dedakhumi_completion_event(YIELD_GATEWAY, 9000, DEDAKHUMI_STATUS_GOOD);
 	size_t short_length = sizeof box->port.report - 1;
 	struct text detail = {.used = 0};
 	text_add(&detail, "(report of %zu bytes)", short_length);
@@ -55,7 +55,7 @@ void scene_damaged_table(const struct box *box)
 	struct box copy = *box;
 	trace_title("12. A bit falls over in a copy of the table: every event is refused, and the driver starts over");
 	box_command(&copy, KERNEL, read_of(12));
-	copy.port.table[DEDAKHUMI_TASK_OFFSET + TASK_STATE] ^= 0x01;
+	copy.port.table[DEDAKHUMI_TASK_OFFSET + DEDAKHUMI_AT_TASK_STATE] ^= 0x01;
 	box_run_next(&copy);
 	box_command(&copy, KERNEL, read_of(12));
 	box_commands_again(&copy);

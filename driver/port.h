@@ -3,7 +3,6 @@
 #define PORT_H
 
 #include "dedakhumi.h"
-#include "events.h"
 
 /* Two separate arrays, so that table and report cannot overlap. Everything else reads them through records.h and writes to neither. */
 struct port {
@@ -13,7 +12,7 @@ struct port {
 
 /* These three answer as the operations of dedakhumi.h do. */
 uint8_t port_start(struct port *port, uint8_t policy);
-struct dedakhumi_answer port_apply(struct port *port, const struct event *event);
+struct dedakhumi_answer port_apply(struct port *port, const struct dedakhumi_event *event);
 struct dedakhumi_turn port_turn(const struct port *port);
 
 #endif

@@ -1,9 +1,9 @@
 #include "refusals.h"
 
 /* The disk has ended a task that waits: the completion is given again once the task is enabled (turns.c). */
-static void hold_completion(struct box *box, const struct event *event)
+static void hold_completion(struct box *box, const struct dedakhumi_event *event)
 {
-	struct event_fields completion = fields_of(event);
+	struct dedakhumi_fields completion = dedakhumi_fields_of(event->bytes);
 	struct kept_request *kept = find_request(&box->kept, completion.nexus, completion.tag);
 	if (kept == NULL) {
 		box->faults++;
@@ -14,7 +14,7 @@ static void hold_completion(struct box *box, const struct event *event)
 	trace_note("the task waits; its completion is held back until it is enabled");
 }
 
-void after_refusal(struct box *box, const struct event *event, uint8_t answer)
+void after_refusal(struct box *box, const struct dedakhumi_event *event, uint8_t answer)
 {
 	switch (answer) {
 	case DEDAKHUMI_BAD_TABLE:

@@ -4,6 +4,6 @@
 
 #include "box.h"
 
-void after_refusal(struct box *box, const struct event *event, uint8_t answer);
+void after_refusal(struct box *box, const struct dedakhumi_event *event, uint8_t answer);
 
 #endif

@@ -1,7 +1,7 @@
 #include "requests.h"
 
 /* DEDAKHUMI_TASKS if there is none. */
-static unsigned place_of(const struct kept_requests *kept, uint8_t nexus, tag_number tag)
+static unsigned place_of(const struct kept_requests *kept, uint8_t nexus, dedakhumi_tag tag)
 {
 	unsigned place = 0;
 	while (place < DEDAKHUMI_TASKS) {
@@ -13,7 +13,7 @@ static unsigned place_of(const struct kept_requests *kept, uint8_t nexus, tag_nu
 	return place;
 }
 
-bool keep_request(struct kept_requests *kept, uint8_t nexus, tag_number tag, struct request request)
+bool keep_request(struct kept_requests *kept, uint8_t nexus, dedakhumi_tag tag, struct request request)
 {
 	unsigned place = 0;
 	while (place < DEDAKHUMI_TASKS && kept->places[place].used)
@@ -24,13 +24,13 @@ bool keep_request(struct kept_requests *kept, uint8_t nexus, tag_number tag, str
 	return true;
 }
 
-struct kept_request *find_request(struct kept_requests *kept, uint8_t nexus, tag_number tag)
+struct kept_request *find_request(struct kept_requests *kept, uint8_t nexus, dedakhumi_tag tag)
 {
 	unsigned place = place_of(kept, nexus, tag);
 	return place == DEDAKHUMI_TASKS ? NULL : &kept->places[place];
 }
 
-bool drop_request(struct kept_requests *kept, uint8_t nexus, tag_number tag)
+bool drop_request(struct kept_requests *kept, uint8_t nexus, dedakhumi_tag tag)
 {
 	unsigned place = place_of(kept, nexus, tag);
 	if (place == DEDAKHUMI_TASKS)

@@ -2,7 +2,7 @@
 #ifndef REQUESTS_H
 #define REQUESTS_H
 
-#include "tags.h"
+#include "dedakhumi.h"
 
 enum action {
 	ACTION_READ,
@@ -24,7 +24,7 @@ struct request {
 struct kept_request {
 	bool used, finished;
 	uint8_t nexus, status;
-	tag_number tag;
+	dedakhumi_tag tag;
 	struct request request;
 };
 
@@ -33,11 +33,11 @@ struct kept_requests {
 };
 
 /* False if all 64 places are used: the task set has no more tasks than that, so a driver that keeps and drops rightly never sees it. */
-bool keep_request(struct kept_requests *kept, uint8_t nexus, tag_number tag, struct request request);
+bool keep_request(struct kept_requests *kept, uint8_t nexus, dedakhumi_tag tag, struct request request);
 /* NULL if there is none. */
-struct kept_request *find_request(struct kept_requests *kept, uint8_t nexus, tag_number tag);
+struct kept_request *find_request(struct kept_requests *kept, uint8_t nexus, dedakhumi_tag tag);
 /* False if there is none. */
-bool drop_request(struct kept_requests *kept, uint8_t nexus, tag_number tag);
+bool drop_request(struct kept_requests *kept, uint8_t nexus, dedakhumi_tag tag);
 unsigned count_requests(const struct kept_requests *kept);
 
 #endif

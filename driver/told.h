@@ -9,7 +9,7 @@
 #define LISTED 4
 
 /* `pending_before` has the pending bits of the eight from before the event. */
-void add_told(struct text *text, const uint8_t *pending_before, const struct port *port, const struct event *event,
+void add_told(struct text *text, const uint8_t *pending_before, const struct port *port, const struct dedakhumi_event *event,
 	const struct dedakhumi_answer *answer);
 
 #endif

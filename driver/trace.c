@@ -30,7 +30,7 @@ void trace_before(struct trace *trace, const struct port *port)
 		trace->pending[nexus] = pending_bits(port, nexus);
 }
 
-static void add_task(struct text *text, const struct task *task)
+static void add_task(struct text *text, const struct dedakhumi_task *task)
 {
 	bool blocked = task->state == DEDAKHUMI_STATE_BLOCKED;
 	text_add(text, blocked ? "(%u.%u) " : "%u.%u ", task->nexus, task->tag);
@@ -48,7 +48,7 @@ static void add_tasks(struct text *text, const struct port *port, bool enabled)
 {
 	unsigned listed = 0;
 	for (unsigned place = 0; place < task_count(port); place++) {
-		struct task task = task_at(port, place);
+		struct dedakhumi_task task = task_at(port, place);
 		if ((task.state == DEDAKHUMI_STATE_ENABLED) != enabled)
 			continue;
 		if (listed < LISTED)
@@ -75,7 +75,7 @@ static void add_aca(struct text *text, const struct port *port)
 		text_add(text, "%u", faulted_nexus(port));
 }
 
-void trace_event(struct trace *trace, const struct port *port, const struct event *event, const char *detail,
+void trace_event(struct trace *trace, const struct port *port, const struct dedakhumi_event *event, const char *detail,
 	const struct dedakhumi_answer *answer)
 {
 	struct text number = {.used = 0}, came = {.used = 0}, answered = {.used = 0}, aca = {.used = 0}, run = {.used = 0}, turn = {.used = 0},

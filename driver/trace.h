@@ -16,7 +16,7 @@ void trace_title(const char *title);
 void trace_note(const char *format, ...) __attribute__((format(printf, 1, 2)));
 void trace_before(struct trace *trace, const struct port *port);
 /* `detail` is put behind the event's own words. */
-void trace_event(struct trace *trace, const struct port *port, const struct event *event, const char *detail,
+void trace_event(struct trace *trace, const struct port *port, const struct dedakhumi_event *event, const char *detail,
 	const struct dedakhumi_answer *answer);
 
 #endif

@@ -1,6 +1,7 @@
 #include "turns.h"
 
 #include "records.h"
+#include "wishes.h"
 
 static void carry_out(struct box *box, const struct request *request, struct text *detail)
 {
@@ -12,13 +13,13 @@ static void carry_out(struct box *box, const struct request *request, struct tex
 		box->faults++;
 }
 
-static void complete(struct box *box, uint8_t nexus, tag_number tag, uint8_t status, const char *detail)
+static void complete(struct box *box, uint8_t nexus, dedakhumi_tag tag, uint8_t status, const char *detail)
 {
-	struct event event = completion_event(nexus, tag, status);
+	struct dedakhumi_event event = dedakhumi_completion_event(nexus, tag, status);
 	box_apply(box, &event, detail);
 }
 
-void box_disk_ends(struct box *box, uint8_t nexus, tag_number tag, uint8_t status)
+void box_disk_ends(struct box *box, uint8_t nexus, dedakhumi_tag tag, uint8_t status)
 {
 	struct text detail = {.used = 0};
 	const struct kept_request *kept = find_request(&box->kept, nexus, tag);
@@ -31,7 +32,7 @@ void box_disk_ends(struct box *box, uint8_t nexus, tag_number tag, uint8_t statu
 static struct kept_request *find_held(struct box *box)
 {
 	for (unsigned place = 0; place < task_count(&box->port); place++) {
-		struct task task = task_at(&box->port, place);
+		struct dedakhumi_task task = task_at(&box->port, place);
 		struct kept_request *kept = find_request(&box->kept, task.nexus, task.tag);
 		if (task.state == DEDAKHUMI_STATE_ENABLED && kept != NULL && kept->finished)
 			return kept;

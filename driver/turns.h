@@ -8,6 +8,6 @@
 bool box_run_next(struct box *box);
 void box_run_all(struct box *box);
 /* The disk ends this task, asked or not. */
-void box_disk_ends(struct box *box, uint8_t nexus, tag_number tag, uint8_t status);
+void box_disk_ends(struct box *box, uint8_t nexus, dedakhumi_tag tag, uint8_t status);
 
 #endif

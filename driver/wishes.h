@@ -3,6 +3,7 @@
 #define WISHES_H
 
 #include "requests.h"
+#include "text.h"
 
 /* These three are SIMPLE. */
 struct request read_of(unsigned tile);
@@ -14,5 +15,7 @@ struct request urgent_inquiry(void);
 struct request repair_of(unsigned tile);
 struct request ordered(struct request request);
 struct request with_naca(struct request request);
+/* What the request is for, as "read tile 3". */
+void add_request(struct text *text, const struct request *request);
 
 #endif

@@ -1,12 +1,36 @@
-/* Dedakhumi: the task set of a SCSI target box, for the port driver that lends it its bytes.
+/* Dedakhumi: the task set of a SCSI target box, for the port driver that lends it its bytes. One logical unit, one task set of up to 64
+   tasks, shared by eight I_T nexuses numbered 0 to 7. It says which task may run and which has to wait, whose turn it is, and who is told
+   of an abort; it moves no data and knows no command but by its nexus, tag and task attribute. Names in capitals are SAM-4's.
 
-   "The paper" is the customer's document 01. What stands here is its boundary: one logical unit, one task set of up to 64 tasks, shared by
-   eight I_T nexuses numbered 0 to 7. driver/ is a port driver to copy from.
+   HOW A DRIVER GOES
+   1. Lend a table of DEDAKHUMI_TABLE_LENGTH bytes and call dedakhumi_start once, with the policy. It is fixed from then on.
+   2. For each command, completion, management function and condition make an event (the functions at the end) and call dedakhumi_apply.
+   3. After each answer 0 or 7 send what the report lists: `ended` records, each a task that has left the table, with the status for its
+      host; FFh is sent to nobody, but the disk has to let go of the task all the same. Drop what was kept for it.
+   4. A COMMAND answered 0 is a task now: keep its command block by nexus and tag. Answered 7 it is none: send the answer's status and
+      sense (key, code, qualifier), and keep nothing.
+   5. Call dedakhumi_name, run the task that it names, give its end as a COMPLETION, and so on. A driver may run every task whose state
+      is enabled, side by side: any enabled task may be completed, and completions of others than the named one count no turn.
+   6. The wait that is promised: a task accepted with another attribute than ACA while k older tasks were in the table has ended by the
+      5 x (k + 1)th turn from then on, whatever else comes between. A turn is the completion, answered 0 and without an ACA, of the task
+      that dedakhumi_name gives just before it. So the promise helps where the named task is run.
+   Whose turn it is: with an ACA that of the ACA task, if there is one, and else nobody's. Without one that of the oldest enabled HEAD OF
+   QUEUE task, but where the last four turns were such tasks' (run is 4) and a SIMPLE or ORDERED task is enabled, or where no HEAD OF QUEUE
+   task is, that of the oldest enabled task.
 
-   The library trusts no byte that it is lent: every call with any lengths and any bytes has an answer, and a call that is refused changes
-   nothing. It allocates nothing, keeps nothing between calls, calls nothing but memset, and never blocks.
+   WHAT A DRIVER OWES TO ITS DISK AND HOSTS
+   - An aborted task leaves the table at once, and tasks that waited for it are enabled in the same event, while the disk may still be
+     writing it. Where that matters, the driver lets the disk finish or drop it first: it gives the event, or runs the tasks that the event
+     enabled, after that.
+   - A COMPLETION of a task that an ACA has blocked, or that is dormant, is answered 6. The driver keeps it, and gives it again when the
+     task is enabled; the report of the event that ends the task otherwise tells it to drop the completion.
+   - A COMPLETION is for the command that is in the table now. Before a tag is used again, the disk has let go of the task that had it: a late
+     completion of an ended task is answered 5 while the tag is unused, and would be taken for the new task's once it is used again.
+   - After answer 1 there is no table any more: start over with the policy kept beside it. The tasks are lost, and each host will be told
+     of a power on.
 
-   What the caller owes, since the library cannot see it:
+   WHAT THE CALLER OWES, since the library cannot see it. It trusts no byte that it is lent: every call with any lengths and any bytes has
+   an answer, and a call that is refused changes nothing.
    - A length is true: that many bytes at the pointer may be read, and written unless the pointer is to const.
    - Table, report and event do not overlap.
    - Nothing else reads or writes the lent bytes during a call: one call at a time on a table. Calls on different tables may run at the same
@@ -14,9 +38,14 @@
    - Only the library writes to a table. A table that somebody else wrote to is refused with 1 if it is no longer well formed; if it still
      is, it is taken for what it says.
    - A null pointer comes only with the length 0. Such a call is refused: no lent buffer has the right length 0.
-   - A COMPLETION is for the command that is in the table now. Before a tag is used again, the disk has let go of the task that had it: a late
-     completion of an ended task is answered 5 while the tag is unused, and would be taken for the new task's once it is used again.
-   Bytes need no alignment. A table may be copied, stored and lent again from another place. */
+   Bytes need no alignment. A table may be copied, stored and lent again from another place.
+
+   WHAT IT COSTS
+   The archive is for x86-64, System V calls. It allocates nothing, keeps nothing between calls, calls nothing but memset, and never blocks.
+   It uses the red zone and SSE registers: as it is built it is not for a kernel or an interrupt handler. Stack below the caller's, without
+   memset's: DEDAKHUMI_APPLY_STACK, DEDAKHUMI_NAME_STACK and DEDAKHUMI_START_STACK bytes. Instructions of dedakhumi_apply by the number of
+   tasks: @MEAN@; no event was found that takes more
+   than @LARGEST@. */
 #ifndef DEDAKHUMI_H
 #define DEDAKHUMI_H
 
@@ -28,8 +57,25 @@
 extern "C" {
 #endif
 
-/* Lengths in bytes, and numbers of records (the paper, "Bytes"). */
-#define DEDAKHUMI_RECORD_LENGTH 8
+/* DEDAKHUMI_INTERFACE goes up with each change of a length, a layout or a function's parameters. */
+#define DEDAKHUMI_VERSION "0.4.0"
+#define DEDAKHUMI_INTERFACE 1
+#define DEDAKHUMI_INTERFACE_SYMBOL dedakhumi_interface_1
+
+/* The archive defines the symbol of its own interface alone, and each file that includes this header asks for the header's: of two interfaces
+   a program is not linked. */
+extern const uint8_t DEDAKHUMI_INTERFACE_SYMBOL;
+static const uint8_t *const dedakhumi_interface_asked __attribute__((used)) = &DEDAKHUMI_INTERFACE_SYMBOL;
+
+/* A task is known by its nexus and its tag. In a record the tag is big-endian. */
+typedef uint16_t dedakhumi_tag;
+
+/* Bytes of stack that a call takes at the most; tests/cost measures it. */
+#define DEDAKHUMI_APPLY_STACK 544
+#define DEDAKHUMI_NAME_STACK 400
+#define DEDAKHUMI_START_STACK 0
+
+/* Lengths in bytes, and numbers of records. */
 #define DEDAKHUMI_HEADER_LENGTH 8
 #define DEDAKHUMI_NEXUS_LENGTH 8
 #define DEDAKHUMI_TASK_LENGTH 8
@@ -66,6 +112,29 @@ enum dedakhumi_mark {
 	DEDAKHUMI_MARK_EVENT = 0x56
 };
 
+/* The places of the fields in their records, as above. */
+enum dedakhumi_place {
+	DEDAKHUMI_AT_HEADER_POLICY = 3,
+	DEDAKHUMI_AT_HEADER_COUNT = 4,
+	DEDAKHUMI_AT_HEADER_ACA = 5,
+	DEDAKHUMI_AT_HEADER_RUN = 6,
+	DEDAKHUMI_AT_NEXUS_NUMBER = 2,
+	DEDAKHUMI_AT_NEXUS_PENDING = 3,
+	DEDAKHUMI_AT_TASK_NEXUS = 2,
+	DEDAKHUMI_AT_TASK_ATTRIBUTE = 3,
+	DEDAKHUMI_AT_TASK_STATE = 4,
+	DEDAKHUMI_AT_TASK_CONTROL = 5,
+	DEDAKHUMI_AT_TASK_TAG = 6,
+	DEDAKHUMI_AT_ENDED_NEXUS = 2,
+	DEDAKHUMI_AT_ENDED_STATUS = 3,
+	DEDAKHUMI_AT_ENDED_TAG = 6,
+	DEDAKHUMI_AT_EVENT_KIND = 2,
+	DEDAKHUMI_AT_EVENT_NEXUS = 3,
+	DEDAKHUMI_AT_EVENT_FIRST = 4,
+	DEDAKHUMI_AT_EVENT_SECOND = 5,
+	DEDAKHUMI_AT_EVENT_TAG = 6
+};
+
 /* The answer numbers, and what becomes of the two buffers. "Same" means that no byte of it changes. The lowest of 1 to 4 that applies is
    given, and each is given only then. */
 enum dedakhumi_answer_number {
@@ -75,7 +144,7 @@ enum dedakhumi_answer_number {
 	DEDAKHUMI_BAD_TABLE = 1,
 	/* Bad report buffer: not 512 bytes.                                    Table same, report same. */
 	DEDAKHUMI_BAD_REPORT = 2,
-	/* Bad event: not 8 bytes, or no event record of the paper.             Table same, report same. */
+	/* Bad event: not 8 bytes, or no event record as below.               Table same, report same. */
 	DEDAKHUMI_BAD_EVENT = 3,
 	/* The event's nexus is above 7.                                        Table same, report same. */
 	DEDAKHUMI_NEXUS_ABOVE_SEVEN = 4,
@@ -206,7 +275,7 @@ struct dedakhumi_turn {
 	uint8_t answer;
 	bool found;
 	uint8_t nexus;
-	uint16_t tag;
+	dedakhumi_tag tag;
 };
 
 /* Writes a fresh table, as after power on: no task, no ACA, run 0, power on pending for all eight. What the bytes held does not matter.
@@ -217,8 +286,121 @@ uint8_t dedakhumi_start(uint8_t *table, size_t table_len, uint8_t policy);
 struct dedakhumi_answer dedakhumi_apply(uint8_t *table, size_t table_len, uint8_t *report, size_t report_len, const uint8_t *event,
 	size_t event_len);
 
-/* Names the task whose turn it is (the paper, "Turn rule"). Answers 0 or 1, and changes nothing. */
+/* Names the task whose turn it is. Answers 0 or 1, and changes nothing. */
 struct dedakhumi_turn dedakhumi_name(const uint8_t *table, size_t table_len);
+
+/* The rest is for the driver's use and calls nothing: events made, and what a table or a report holds read by the places above. */
+
+struct dedakhumi_event {
+	uint8_t bytes[DEDAKHUMI_EVENT_LENGTH];
+};
+
+/* What an event's bytes say; `first` and `second` mean something else with each kind. */
+struct dedakhumi_fields {
+	uint8_t kind, nexus, first, second;
+	dedakhumi_tag tag;
+};
+
+struct dedakhumi_task {
+	uint8_t nexus, attribute, state, control;
+	dedakhumi_tag tag;
+};
+
+struct dedakhumi_ended {
+	uint8_t nexus, status;
+	dedakhumi_tag tag;
+};
+
+/* Both from the tag's first byte on. */
+static inline dedakhumi_tag dedakhumi_get_tag(const uint8_t *bytes)
+{
+	dedakhumi_tag tag = 0;
+	for (size_t i = 0; i < sizeof tag; i++)
+		tag = (dedakhumi_tag)(tag << 8 | bytes[i]);
+	return tag;
+}
+
+static inline void dedakhumi_put_tag(uint8_t *bytes, dedakhumi_tag tag)
+{
+	for (size_t i = sizeof tag; i > 0; i--) {
+		bytes[i - 1] = (uint8_t)(tag & 0xFF);
+		tag = (dedakhumi_tag)(tag >> 8);
+	}
+}
+
+/* An event of any fields, right or wrong: what those below are made by. */
+static inline struct dedakhumi_event dedakhumi_event_of(uint8_t kind, uint8_t nexus, uint8_t first, uint8_t second, dedakhumi_tag tag)
+{
+	struct dedakhumi_event event = {{DEDAKHUMI_MARK_FIRST, DEDAKHUMI_MARK_EVENT, kind, nexus, first, second}};
+	dedakhumi_put_tag(event.bytes + DEDAKHUMI_AT_EVENT_TAG, tag);
+	return event;
+}
+
+static inline struct dedakhumi_fields dedakhumi_fields_of(const uint8_t *event)
+{
+	struct dedakhumi_fields fields = {event[DEDAKHUMI_AT_EVENT_KIND], event[DEDAKHUMI_AT_EVENT_NEXUS], event[DEDAKHUMI_AT_EVENT_FIRST],
+		event[DEDAKHUMI_AT_EVENT_SECOND], dedakhumi_get_tag(event + DEDAKHUMI_AT_EVENT_TAG)};
+	return fields;
+}
+
+/* `control` is DEDAKHUMI_CONTROL_NACA and DEDAKHUMI_CONTROL_EXEMPT, not the CDB's control byte. */
+static inline struct dedakhumi_event dedakhumi_command_event(uint8_t nexus, dedakhumi_tag tag, uint8_t attribute, uint8_t control)
+{
+	return dedakhumi_event_of(DEDAKHUMI_KIND_COMMAND, nexus, attribute, control, tag);
+}
+
+/* `status` is DEDAKHUMI_STATUS_GOOD or DEDAKHUMI_STATUS_CHECK_CONDITION. */
+static inline struct dedakhumi_event dedakhumi_completion_event(uint8_t nexus, dedakhumi_tag tag, uint8_t status)
+{
+	return dedakhumi_event_of(DEDAKHUMI_KIND_COMPLETION, nexus, status, 0, tag);
+}
+
+static inline struct dedakhumi_event dedakhumi_abort_task_event(uint8_t nexus, dedakhumi_tag tag)
+{
+	return dedakhumi_event_of(DEDAKHUMI_KIND_MANAGEMENT, nexus, DEDAKHUMI_FUNCTION_ABORT_TASK, 0, tag);
+}
+
+/* Every function but ABORT TASK, which alone has a tag. */
+static inline struct dedakhumi_event dedakhumi_function_event(uint8_t nexus, uint8_t function)
+{
+	return dedakhumi_event_of(DEDAKHUMI_KIND_MANAGEMENT, nexus, function, 0, 0);
+}
+
+static inline struct dedakhumi_event dedakhumi_nexus_loss_event(uint8_t nexus)
+{
+	return dedakhumi_event_of(DEDAKHUMI_KIND_CONDITION, nexus, DEDAKHUMI_CONDITION_NEXUS_LOSS, 0, 0);
+}
+
+/* Power on and hard reset, which have no nexus. */
+static inline struct dedakhumi_event dedakhumi_reset_event(uint8_t condition)
+{
+	return dedakhumi_event_of(DEDAKHUMI_KIND_CONDITION, 0, condition, 0, 0);
+}
+
+/* The record at `place` of a report, the answer's `ended` records from 0 on. */
+static inline struct dedakhumi_ended dedakhumi_ended_at(const uint8_t *report, size_t place)
+{
+	const uint8_t *record = report + DEDAKHUMI_ENDED_LENGTH * place;
+	struct dedakhumi_ended ended = {
+		record[DEDAKHUMI_AT_ENDED_NEXUS], record[DEDAKHUMI_AT_ENDED_STATUS], dedakhumi_get_tag(record + DEDAKHUMI_AT_ENDED_TAG)};
+	return ended;
+}
+
+/* Never more than there is room for, though a damaged table may say more. */
+static inline size_t dedakhumi_task_count(const uint8_t *table)
+{
+	size_t count = table[DEDAKHUMI_HEADER_OFFSET + DEDAKHUMI_AT_HEADER_COUNT];
+	return count < DEDAKHUMI_TASKS ? count : DEDAKHUMI_TASKS;
+}
+
+/* The record at `place` of a table, below its task count; 0 is the oldest. */
+static inline struct dedakhumi_task dedakhumi_task_at(const uint8_t *table, size_t place)
+{
+	const uint8_t *record = table + DEDAKHUMI_TASK_OFFSET + DEDAKHUMI_TASK_LENGTH * place;
+	struct dedakhumi_task task = {record[DEDAKHUMI_AT_TASK_NEXUS], record[DEDAKHUMI_AT_TASK_ATTRIBUTE], record[DEDAKHUMI_AT_TASK_STATE],
+		record[DEDAKHUMI_AT_TASK_CONTROL], dedakhumi_get_tag(record + DEDAKHUMI_AT_TASK_TAG)};
+	return task;
+}
 
 #ifdef __cplusplus
 }
