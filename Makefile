@@ -97,7 +97,7 @@ build/tests/$(2)-sanitized: $(3) $(ARCHIVE) $(HEADER) $(wildcard $(4))
 	@mkdir -p $$(@D)
 	$$(COMPILE_C) $(SANITIZE) $(5) $$(filter %.c,$$^) $(ARCHIVE) -o $$@
 endef
-$(eval $(call program,bin,night,driver/*.c text/*.c,driver/*.h text/*.h,-Itext))
+$(eval $(call program,bin,night,driver/port/*.c driver/night/*.c text/*.c,driver/*/*.h text/*.h,-Idriver/port -Itext))
 $(eval $(call program,tests,header,tests/header/helpers.c,,))
 $(eval $(call program,tests,cost,tests/cost/*.c,tests/cost/*.h,))
 $(eval $(call program,tests,compare,tests/compare/*.c second/*.c,tests/compare/*.h second/*.h,-Isecond))
