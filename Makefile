@@ -98,6 +98,7 @@ build/tests/$(2)-sanitized: $(3) $(ARCHIVE) $(HEADER) $(wildcard $(4))
 	$$(COMPILE_C) $(SANITIZE) $(5) $$(filter %.c,$$^) $(ARCHIVE) -o $$@
 endef
 $(eval $(call program,bin,night,driver/port/*.c driver/night/*.c text/*.c,driver/*/*.h text/*.h,-Idriver/port -Itext))
+$(eval $(call program,tests,port,driver/port/*.c tests/port/*.c,driver/port/*.h tests/port/*.h,-Idriver/port))
 $(eval $(call program,tests,header,tests/header/helpers.c,,))
 $(eval $(call program,tests,cost,tests/cost/*.c,tests/cost/*.h,))
 $(eval $(call program,tests,compare,tests/compare/*.c second/*.c,tests/compare/*.h second/*.h,-Isecond))
@@ -106,7 +107,7 @@ $(eval $(call program,tests,outside,tests/outside/*.c,tests/outside/*.h second/l
 $(eval $(call program,tests,replay,tests/cases/*.c,tests/cases/*.h,))
 
 # One after the other, the quick ones first. The last line is that of `rt ci`: N passed, 0 failed.
-TESTS := need header crates names promises opened install cost driver outside pages cases compare
+TESTS := need header crates names promises opened install cost port driver outside pages cases compare
 .PHONY: test
 test:
 	@for test in $(TESTS); do \
@@ -141,6 +142,13 @@ test-names: tests/names
 
 test-install: $(ARCHIVE)
 	tests/install/run
+
+# What a driver's author copies, alone and with a driver around it that is not the night's.
+test-port: build/tests/port $(SANITIZED:%=build/tests/port%) tests/port/alone
+	tests/port/alone
+	$(RUN) build/tests/port
+	$(SANITIZED:%=build/tests/port%)
+	$(call faults,port)
 
 test-driver: build/bin/night $(SANITIZED:%=build/tests/night%)
 	tests/driver $(filter build/%,$^)
