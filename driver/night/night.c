@@ -1,4 +1,5 @@
-/* A harvest night in a depot: the scenes in their order, and what each host heard. Ends with 1 if something happened that must not. */
+/* A harvest night in a depot: the scenes in their order, and what each host heard. Ends with 1 if something happened that must not, or if
+   the trace could not be written; with 2 if it is called wrongly. */
 #include <stdio.h>
 #include <stdlib.h>
 
@@ -37,11 +38,11 @@ static bool sum_up(const struct world *world)
 	return is_balanced(world) && world->faults == 0;
 }
 
-int main(void)
+static bool play(void)
 {
 	struct world world = {.faults = 0};
 	if (world_start(&world, 0x02) || !world_start(&world, DEDAKHUMI_POLICY_QERR_NONE))
-		return EXIT_FAILURE;
+		return false;
 	scene_power_on(&world);
 	scene_tile(&world);
 	scene_heads_of_queue(&world);
@@ -55,5 +56,29 @@ int main(void)
 	scene_resets(&world);
 	scene_damaged_table(&world);
 	scene_other_depots();
-	return sum_up(&world) ? EXIT_SUCCESS : EXIT_FAILURE;
+	return sum_up(&world);
+}
+
+/* The last bytes are written only now, and an error of earlier ones is remembered by the stream alone. */
+static bool is_written(void)
+{
+	bool failed_before = ferror(stdout) != 0;
+	return fclose(stdout) == 0 && !failed_before;
+}
+
+int main(int argc, char **argv)
+{
+	(void)argv;
+	if (argc > 1) {
+		fprintf(stderr, "night: takes no argument, and was given %d; usage: night\n", argc - 1);
+		return 2;
+	}
+	bool as_it_must = play();
+	if (!is_written()) {
+		fprintf(stderr, "night: the trace could not be written to standard output\n");
+		return EXIT_FAILURE;
+	}
+	if (!as_it_must)
+		fprintf(stderr, "night: something happened that must not; the trace says what\n");
+	return as_it_must ? EXIT_SUCCESS : EXIT_FAILURE;
 }
