@@ -107,7 +107,7 @@ $(eval $(call program,tests,outside,tests/outside/*.c,tests/outside/*.h second/l
 $(eval $(call program,tests,replay,tests/cases/*.c,tests/cases/*.h,))
 
 # One after the other, the quick ones first. The last line is that of `rt ci`: N passed, 0 failed.
-TESTS := need header crates names promises opened install cost port driver outside pages cases compare
+TESTS := need header crates names promises opened clauses install cost port driver outside pages cases compare
 .PHONY: test
 test:
 	@for test in $(TESTS); do \
@@ -186,3 +186,6 @@ test-promises: tests/promises
 
 test-opened: tests/opened
 	tests/opened
+
+test-clauses: tests/clauses
+	tests/clauses

@@ -39,7 +39,7 @@ turnInNumbers a (Names n) = record { answer = (said a) .number; found = true; ne
 abbrev pub turnFor : Naming → NamedTurn
 turnFor n = turnInNumbers (n .answer) (n .turn)
 
--- RULES 20.1: start
+-- RULES 20.2: start
 abbrev pub startNumber : List ℕ → ℕ → ℕ
 startNumber t p = (said ((started t p) .answer)) .number
 

@@ -61,7 +61,7 @@ tableSize = tasksAt + taskSize * places
 abbrev pub reportSize : ℕ
 reportSize = endedSize * places
 
--- RULES 13.1 and 15.1: the fields of a header
+-- RULES 13.4 and 15.1: the fields of a header
 abbrev pub policyOffset : ℕ
 policyOffset = 3
 
@@ -74,14 +74,14 @@ acaOffset = 5
 abbrev pub runOffset : ℕ
 runOffset = 6
 
--- RULES 13.1 and 15.2: those of a nexus record
+-- RULES 13.4 and 15.2: those of a nexus record
 abbrev pub pendingOffset : ℕ
 pendingOffset = 3
 
 abbrev pub pendingsAt : ℕ
 pendingsAt = nexusesAt + pendingOffset
 
--- RULES 13.1 and 15.3: those of a task record
+-- RULES 13.4 and 15.3: those of a task record
 abbrev pub nexusOffset : ℕ
 nexusOffset = 2
 
@@ -100,7 +100,7 @@ attributesAt = tasksAt + attributeOffset
 abbrev pub statesAt : ℕ
 statesAt = tasksAt + stateOffset
 
--- RULES 13.1 and 16.6: those of an event
+-- RULES 13.4 and 16.6: those of an event
 abbrev pub kindOffset : ℕ
 kindOffset = 2
 
