@@ -2,33 +2,46 @@
    tasks, shared by eight I_T nexuses numbered 0 to 7. It says which task may run and which has to wait, whose turn it is, and who is told
    of an abort; it moves no data and knows no command but by its nexus, tag and task attribute. Names in capitals are SAM-4's. What stands
    here is enough to write a driver; "RULES 5.2" is a clause of the law in full, RULES.md, which is installed in share/doc/dedakhumi.
+   As it is built it is for x86-64 programs, not for a kernel or an interrupt handler (WHAT IT COSTS).
 
    HOW A DRIVER GOES
    1. Lend a table of DEDAKHUMI_TABLE_LENGTH bytes and call dedakhumi_start once, with the policy, which is fixed from then on.
    2. For each command, completion, management function and condition make an event (the functions at the end) and call dedakhumi_apply.
-   3. Under the answers 0 and 7 send what the report lists: `ended` records, each a task that has left the table, with the status for its
-      host. FFh is sent to nobody, but the disk has to let go of the task all the same. Drop what was kept for it.
-   4. A COMMAND answered 0 is a task now: keep its command block, found by nexus and tag. Answered 7 it is none: send the answer's status
-      and sense, and keep nothing. A MANAGEMENT answered 0 is FUNCTION COMPLETE, and 8 is FUNCTION REJECTED.
+   3. Under the answers 0 and 7 first send what the report lists: `ended` records, each a task that has left the table, the completed one
+      among them, with the status for its host. FFh is sent to nobody, but the disk has to let go of the task all the same. Drop what was
+      kept for it.
+   4. A COMMAND answered 0 is a task now, and has ended nobody: keep its command block, found by nexus and tag. Answered 7 it is none: send
+      the answer's status and sense, and keep nothing. A MANAGEMENT answered 0 is FUNCTION COMPLETE, and 8 is FUNCTION REJECTED.
    5. Call dedakhumi_name, run the task that it names, give its end as a COMPLETION, and so on. A driver may also run every task whose
-      state is enabled, side by side: any of them may be completed; only a completion of the named one is a turn.
+      state is enabled, side by side: any of them may be completed. If another task is named while one runs, the one that runs goes on.
    6. The wait that is promised (RULES 23.5): a task accepted with another attribute than ACA while k older tasks were in the table has
-      ended by the 5 x (k + 1)th turn after that, whatever else comes between. A turn is a COMPLETION, answered 0 and without an ACA, of
-      the task that dedakhumi_name gives just before it; so the promise is worth something where the named task is run.
+      ended by the 5 x (k + 1)th turn after that, whatever else comes between. A turn is a COMPLETION, answered 0, of the task that
+      dedakhumi_name gives just before it, with no ACA then; so the promise is worth something where the named task is run.
    Whose turn it is (RULES 2.10 to 2.12): with an ACA it is that of the ACA task, if there is one, and else nobody's. Without one it is that
    of the oldest enabled HEAD OF QUEUE task, unless there is none, or the last four turns were such tasks' (run is 4) and a SIMPLE or
    ORDERED task is enabled: then it is that of the oldest enabled task.
 
    WHAT A DRIVER OWES TO ITS DISK AND HOSTS
-   - An aborted task leaves the table at once, and tasks that waited for it are enabled in the same event, while the disk may still be
-     writing it. Where that matters, the driver lets the disk finish or drop it first: it gives the event, or runs the tasks that the event
-     enabled, after that.
-   - A COMPLETION of a task that an ACA has blocked, or that is dormant, is answered 6. The driver keeps it, and gives it again when the
-     task is enabled; the report of the event that ends the task otherwise tells it to drop the completion.
-   - A COMPLETION is for the command that is in the table now. Before a tag is used again, the disk has let go of the task that had it: a
-     late completion of an ended task is answered 5 while the tag is unused, and would be taken for the new task's once it is used again.
-   - After answer 1 there is no table any more: start over with the policy kept beside it. The tasks are lost, and each host will be told
-     of a power on.
+   - An aborted task leaves the table at once, and others are enabled, while the disk may still be writing it. Where that matters, the
+     driver drains it first: until the disk has let go, it starts nothing that would have waited for the task, and that may be a command
+     that enters later too; most simply it starts nothing. FUNCTION COMPLETE and TASK ABORTED go out after that as well.
+   - A COMPLETION that comes while the task is blocked is answered 6. The driver keeps it, and gives it again when the task is enabled,
+     the oldest task's first, with a look at the states after each; a report that lists the task before says that it is to be dropped. A
+     task once enabled is never dormant again: after an ACA it is enabled again.
+   - A COMPLETION is for the command that is in the table now. A host may use the tag of an ended task at once, so ends that come from the
+     disk are told apart by a number of the driver's own: a late one is answered 5 only while the tag is unused, and is dropped.
+   - GOOD and CHECK CONDITION alone are completions. For another status of the disk's, such as RESERVATION CONFLICT, the driver gives GOOD,
+     which ends the task and nothing else, and sends the disk's status in its place.
+   - After answer 1, of dedakhumi_name too, there is no table any more: let the disk let go of everything, start over with the policy kept
+     beside the table, and give the event again if it was no completion. Each host will be told of a power on.
+
+   AN ACA (RULES 2.8 to 2.10, 5.4, 5.5, 6.3)
+   - It begins with a COMPLETION of CHECK CONDITION of a task with NACA: that task's nexus is the faulted one. A command that ends at entry
+     with CHECK CONDITION begins none, and takes no other task along by QERR.
+   - Enabled tasks are blocked then, dormant ones stay so. One ACA task of the faulted nexus may enter at a time; every other command of that
+     nexus gets ACA ACTIVE, and those of others get BUSY, or ACA ACTIVE with NACA, exempt or not; a unit attention waits meanwhile.
+   - It ends by CLEAR ACA of the faulted nexus, by CHECK CONDITION of the ACA task without NACA, by the loss of the faulted nexus, and by
+     every reset; by no abort, and not by GOOD.
 
    WHAT THE CALLER OWES, since the library cannot see it. It trusts no byte that it is lent: every call with any lengths and any bytes has
    an answer, and a call that is refused changes nothing.
@@ -39,11 +52,11 @@
    - Only the library writes to a table. A table that somebody else wrote to is refused with 1 if it is no longer well formed; if it still
      is, it is taken for what it says.
    - A null pointer comes only with the length 0. Such a call is refused: no lent buffer has the right length 0.
-   Bytes need no alignment. A table may be copied, stored and lent again from another place.
+   Bytes need no alignment. A table may be copied, stored and lent again from another place; what an event would do can be tried on a copy.
 
    WHAT IT COSTS
    - The archive is for x86-64 with System V calls. It allocates nothing, keeps nothing between calls, calls nothing but memset, and never
-     blocks. It uses the red zone and SSE registers: as it is built it is not for a kernel or an interrupt handler.
+     blocks. It uses the red zone and SSE registers, which a kernel and an interrupt handler must not.
    - Stack: DEDAKHUMI_APPLY_STACK, DEDAKHUMI_NAME_STACK and DEDAKHUMI_START_STACK bytes, return address included; memset's own come to that.
    - Instructions of dedakhumi_apply: in steady work 860 an event at 3 tasks, 2,080 at 16 and 9,470 at 64. The most that a search found is
      28,386: a CHECK CONDITION of the ACA task under QERR 01b on a lent table with 63 other tasks; and 27,076 where a start leads there: a
@@ -179,13 +192,15 @@ enum dedakhumi_policy {
 	DEDAKHUMI_POLICY_QERR_ALL = 0x01,
 	/* it aborts the other tasks of that nexus */
 	DEDAKHUMI_POLICY_QERR_NEXUS = 0x03,
-	/* tasks that another nexus aborted (QERR, CLEAR TASK SET) end with TASK ABORTED; without it that nexus gets a unit attention */
+	/* tasks that another nexus aborts by QERR or CLEAR TASK SET end with TASK ABORTED; without it they end with FFh, and the nexus
+	   that lost them gets a unit attention. Resets and a nexus loss don't look at it. */
 	DEDAKHUMI_POLICY_TAS = 0x04
 };
 
 /* Byte 2 of an event (RULES 16). Of the fields that are not named beside a kind, each has to be 0. */
 enum dedakhumi_kind {
-	/* nexus, tag; first: the attribute, any byte; second: DEDAKHUMI_CONTROL_NACA, DEDAKHUMI_CONTROL_EXEMPT */
+	/* nexus, tag; first: the attribute, any byte; second: DEDAKHUMI_CONTROL_NACA, DEDAKHUMI_CONTROL_EXEMPT, and no other bit. Where a
+	   task of that nexus and tag is in the table, all tasks of the nexus end with FFh, and the command with CHECK CONDITION. */
 	DEDAKHUMI_KIND_COMMAND = 1,
 	/* nexus, tag; first: DEDAKHUMI_STATUS_GOOD or DEDAKHUMI_STATUS_CHECK_CONDITION */
 	DEDAKHUMI_KIND_COMPLETION = 2,
@@ -197,26 +212,32 @@ enum dedakhumi_kind {
 
 /* Byte 5 of a COMMAND. Bit 0 is byte 5 of the task as well. It is not the CDB's control byte, where NACA is bit 2. */
 enum dedakhumi_control {
-	/* a CHECK CONDITION of this task sets up an ACA */
+	/* a completion of this task with CHECK CONDITION sets up an ACA */
 	DEDAKHUMI_CONTROL_NACA = 0x01,
-	/* INQUIRY, REPORT LUNS or REQUEST SENSE: enters in spite of a pending unit attention, which then stays */
+	/* INQUIRY, REPORT LUNS or REQUEST SENSE: enters in spite of a pending unit attention, which stays for the next other command */
 	DEDAKHUMI_CONTROL_EXEMPT = 0x02
 };
 
-/* Byte 4 of a MANAGEMENT (RULES 7). Any other is unknown and rejected with 8. */
+/* Byte 4 of a MANAGEMENT (RULES 7). Any other is unknown and rejected with 8. All but the last leave an ACA, CLEAR ACA aside. */
 enum dedakhumi_function {
+	/* ends the sender's task of that tag; done as well if there is none */
 	DEDAKHUMI_FUNCTION_ABORT_TASK = 1,
+	/* ends the sender's tasks */
 	DEDAKHUMI_FUNCTION_ABORT_TASK_SET = 2,
+	/* ends all tasks, those of others by DEDAKHUMI_POLICY_TAS */
 	DEDAKHUMI_FUNCTION_CLEAR_TASK_SET = 3,
-	/* rejected with 8 when another nexus than the sender is the faulted one */
+	/* ends the ACA, and the ACA task with FFh; done without an ACA; rejected with 8 when another nexus than the sender is the faulted one */
 	DEDAKHUMI_FUNCTION_CLEAR_ACA = 4,
+	/* ends all tasks with FFh and the ACA, run is 0, and all eight get a unit attention, the sender too */
 	DEDAKHUMI_FUNCTION_LOGICAL_UNIT_RESET = 5
 };
 
-/* Byte 4 of a CONDITION (RULES 8). Any other is a bad event. */
+/* Byte 4 of a CONDITION (RULES 8). Any other is a bad event. The first two do to all eight what a LOGICAL UNIT RESET does. */
 enum dedakhumi_condition {
+	/* leaves the table that dedakhumi_start makes, and reports the tasks that were there */
 	DEDAKHUMI_CONDITION_POWER_ON = 1,
 	DEDAKHUMI_CONDITION_HARD_RESET = 2,
+	/* ends the tasks of that nexus with FFh, and its ACA; it gets a unit attention */
 	DEDAKHUMI_CONDITION_NEXUS_LOSS = 3
 };
 
@@ -255,8 +276,8 @@ enum dedakhumi_status {
 	DEDAKHUMI_STATUS_NONE = 0xFF
 };
 
-/* Byte 3 of a nexus record (RULES 3): the unit attentions that wait for its next command, highest rank first. Each is reported by CHECK
-   CONDITION with key 6h and the code and qualifier beside it. */
+/* Byte 3 of a nexus record (RULES 3): the unit attentions that wait for the nexus, highest rank first. A command that is not exempt is told
+   the highest one, by CHECK CONDITION with key 6h and the code and qualifier beside it. One that is set takes those of lower rank away. */
 enum dedakhumi_pending {
 	/* 29h/00h */
 	DEDAKHUMI_PENDING_POWER_ON = 0x01,
@@ -266,7 +287,7 @@ enum dedakhumi_pending {
 	DEDAKHUMI_PENDING_LOGICAL_UNIT_RESET = 0x04,
 	/* 29h/07h */
 	DEDAKHUMI_PENDING_NEXUS_LOSS = 0x08,
-	/* 2Fh/00h, commands cleared by another initiator */
+	/* 2Fh/00h, commands cleared by another initiator (DEDAKHUMI_POLICY_TAS) */
 	DEDAKHUMI_PENDING_COMMANDS_CLEARED = 0x10
 };
 
@@ -407,6 +428,25 @@ static inline size_t dedakhumi_task_count(const uint8_t *table)
 {
 	size_t count = table[DEDAKHUMI_HEADER_OFFSET + DEDAKHUMI_AT_HEADER_COUNT];
 	return count < DEDAKHUMI_TASKS ? count : DEDAKHUMI_TASKS;
+}
+
+/* Without an ACA this is DEDAKHUMI_NEXUSES. */
+static inline uint8_t dedakhumi_faulted_nexus(const uint8_t *table)
+{
+	uint8_t aca = table[DEDAKHUMI_HEADER_OFFSET + DEDAKHUMI_AT_HEADER_ACA];
+	return aca == 0 ? (uint8_t)DEDAKHUMI_NEXUSES : (uint8_t)(aca - 1);
+}
+
+/* How many turns of HEAD OF QUEUE tasks came last, up to 4. */
+static inline uint8_t dedakhumi_run_of(const uint8_t *table)
+{
+	return table[DEDAKHUMI_HEADER_OFFSET + DEDAKHUMI_AT_HEADER_RUN];
+}
+
+/* `nexus` is 0 to 7. */
+static inline uint8_t dedakhumi_pending_of(const uint8_t *table, unsigned nexus)
+{
+	return table[DEDAKHUMI_NEXUS_OFFSET + DEDAKHUMI_NEXUS_LENGTH * nexus + DEDAKHUMI_AT_NEXUS_PENDING];
 }
 
 /* The record at `place` of a table, below its task count; 0 is the oldest. */

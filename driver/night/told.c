@@ -1,7 +1,6 @@
 #include "told.h"
 
 #include "names.h"
-#include "records.h"
 
 static void add_ends(struct text *text, const struct port *port, unsigned ended)
 {
@@ -32,7 +31,7 @@ static void add_attention(struct text *text, const uint8_t *pending_before, cons
 {
 	struct text nexuses = {.used = 0};
 	for (unsigned nexus = 0; nexus < DEDAKHUMI_NEXUSES; nexus++)
-		if (pending_bits(port, nexus) & ~pending_before[nexus] & bit)
+		if (dedakhumi_pending_of(port->table, nexus) & ~pending_before[nexus] & bit)
 			text_add(&nexuses, " %u", nexus);
 	if (nexuses.used != 0)
 		text_add(text, "%s will be told to%s; ", attention_name(bit), nexuses.bytes);

@@ -3,7 +3,6 @@
 #include <stdarg.h>
 #include <stdio.h>
 
-#include "records.h"
 #include "told.h"
 
 static const char line_format[] = "%4s  %-44s %-16s %-3s %-3s %-5s %-26s %-26s %s\n";
@@ -27,7 +26,7 @@ void trace_note(const char *format, ...)
 void trace_remember(struct trace *trace, const struct port *port)
 {
 	for (unsigned nexus = 0; nexus < DEDAKHUMI_NEXUSES; nexus++)
-		trace->pending[nexus] = pending_bits(port, nexus);
+		trace->pending[nexus] = dedakhumi_pending_of(port->table, nexus);
 }
 
 static void add_task(struct text *text, const struct dedakhumi_task *task)
@@ -69,10 +68,10 @@ static void add_turn(struct text *text, const struct port *port)
 
 static void add_aca(struct text *text, const struct port *port)
 {
-	if (faulted_nexus(port) == DEDAKHUMI_NEXUSES)
+	if (dedakhumi_faulted_nexus(port->table) == DEDAKHUMI_NEXUSES)
 		text_add(text, "-");
 	else
-		text_add(text, "%u", faulted_nexus(port));
+		text_add(text, "%u", dedakhumi_faulted_nexus(port->table));
 }
 
 void trace_event(struct trace *trace, const struct port *port, const struct dedakhumi_event *event, const char *detail,
@@ -85,7 +84,7 @@ void trace_event(struct trace *trace, const struct port *port, const struct deda
 	text_add(&came, "%s%s", *detail == '\0' ? "" : " ", detail);
 	text_add(&answered, "%u %s", answer->answer, answer_name(answer->answer));
 	add_aca(&aca, port);
-	text_add(&run, "%u", run_of(port));
+	text_add(&run, "%u", dedakhumi_run_of(port->table));
 	add_turn(&turn, port);
 	add_tasks(&enabled, port, true);
 	add_tasks(&waits, port, false);

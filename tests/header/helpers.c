@@ -54,6 +54,8 @@ static void hold_records(void)
 	static const uint8_t task_record[] = {0x54, 0x54, 0x05, 0x01, 0x03, 0x01, 0xAB, 0xCD}, ended_record[] = {0x54, 0x45, 0x06, 0x40, 0x00, 0x00, 0x80, 0x01};
 	static uint8_t table[DEDAKHUMI_TABLE_LENGTH], report[DEDAKHUMI_REPORT_LENGTH];
 	table[4] = 2;
+	table[6] = 3;
+	table[8 + 8 * 7 + 3] = 0x1F;
 	memcpy(table + 80, task_record, sizeof task_record);
 	memcpy(report + 8, ended_record, sizeof ended_record);
 	struct dedakhumi_task task = dedakhumi_task_at(table, 1);
@@ -62,6 +64,10 @@ static void hold_records(void)
 	struct dedakhumi_ended ended = dedakhumi_ended_at(report, 1);
 	hold(ended.nexus == 6 && ended.status == DEDAKHUMI_STATUS_TASK_ABORTED && ended.tag == 0x8001, "an ended record");
 	hold(dedakhumi_task_count(table) == 2, "a task count");
+	hold(dedakhumi_run_of(table) == 3 && dedakhumi_pending_of(table, 7) == 0x1F, "run and pending bits");
+	hold(dedakhumi_faulted_nexus(table) == 8, "no faulted nexus");
+	table[5] = 8;
+	hold(dedakhumi_faulted_nexus(table) == 7, "the faulted nexus 7");
 	table[4] = 65;
 	hold(dedakhumi_task_count(table) == 64, "the task count of a damaged table");
 }

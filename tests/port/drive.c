@@ -3,7 +3,6 @@
 #include <stdio.h>
 #include <stdlib.h>
 
-#include "records.h"
 #include "watch.h"
 
 enum { SIMPLE = DEDAKHUMI_ATTRIBUTE_SIMPLE, HEAD_OF_QUEUE = DEDAKHUMI_ATTRIBUTE_HEAD_OF_QUEUE, ORDERED = DEDAKHUMI_ATTRIBUTE_ORDERED };
@@ -72,7 +71,7 @@ static void power_on(void)
 	check_number(&watch, "what ended at entry is not kept", count_requests(&watch.box.kept), 1);
 	names(&watch, "it is the turn of the only task", true, "run 3.1; ");
 	check_answer(&watch, "a task that ended GOOD", good(&watch, 3, 1), 0, "let go 3.1; send 3.1 00h; ");
-	check_number(&watch, "one turn of a HEAD OF QUEUE task", run_of(&watch.box.port), 1);
+	check_number(&watch, "one turn of a HEAD OF QUEUE task", dedakhumi_run_of(watch.box.port.table), 1);
 }
 
 static void ordered_write(void)
@@ -116,7 +115,7 @@ static struct watch *begin_aca(void)
 	accepts(watch, 7, 2, ORDERED, 0);
 	runs(watch, "both SIMPLE tasks run side by side", 2, "run 1.2; run 2.2; ");
 	check_answer(watch, "the host hears the disk's sense", bad(watch, 1, 2, write_error), 0, "let go 1.2; send 1.2 02h 3h/0Ch/00h; ");
-	check_number(watch, "the faulted nexus", faulted_nexus(&watch->box.port), 1);
+	check_number(watch, "the faulted nexus", dedakhumi_faulted_nexus(watch->box.port.table), 1);
 	return watch;
 }
 
@@ -130,7 +129,7 @@ static void blocked_task(void)
 	check_answer(watch, "others find the box busy", command(watch, 4, 2, SIMPLE, 0), 7, "send 4.2 08h; ");
 	check_answer(watch, "others cannot clear", function(watch, 4, DEDAKHUMI_FUNCTION_CLEAR_ACA), 8, "");
 	check_answer(watch, "the faulted one can", function(watch, 1, DEDAKHUMI_FUNCTION_CLEAR_ACA), 0, "");
-	check_number(watch, "no faulted nexus", faulted_nexus(&watch->box.port), DEDAKHUMI_NEXUSES);
+	check_number(watch, "no faulted nexus", dedakhumi_faulted_nexus(watch->box.port.table), DEDAKHUMI_NEXUSES);
 	runs(watch, "the completion is given again, and enables the ORDERED task", 1, "gives again; let go 2.2; send 2.2 00h; run 7.2; ");
 	check_answer(watch, "which ends", good(watch, 7, 2), 0, "let go 7.2; send 7.2 00h; ");
 }
@@ -188,7 +187,7 @@ static void aborts_of_others(void)
 	runs(watch, "both", 2, "run 0.2; run 1.2; ");
 	check_answer(watch, "a failed task takes the others with it", bad(watch, 0, 2, write_error), 0,
 		"let go 0.2; send 0.2 02h 3h/0Ch/00h; let go 1.2 at the disk; ");
-	check_number(watch, "the other is to hear of it", pending_bits(&watch->box.port, 1), DEDAKHUMI_PENDING_COMMANDS_CLEARED);
+	check_number(watch, "the other is to hear of it", dedakhumi_pending_of(watch->box.port.table, 1), DEDAKHUMI_PENDING_COMMANDS_CLEARED);
 	check_answer(watch, "at its next command", command(watch, 1, 3, SIMPLE, 0), 7, "send 1.3 02h 6h/2Fh/00h; ");
 }
 
