@@ -98,7 +98,7 @@ endef
 $(eval $(call program,bin,night,driver/*.c text/*.c,driver/*.h text/*.h,-Itext))
 $(eval $(call program,tests,compare,tests/compare/*.c second/*.c,tests/compare/*.h second/*.h,-Isecond))
 $(eval $(call program,tests,pages,tests/pages/*.c,tests/pages/*.h second/layout.h,-Isecond))
-$(eval $(call program,tests,outside,tests/outside/*.c,tests/outside/*.h second/layout.h,-Isecond))
+$(eval $(call program,tests,outside,tests/outside/*.c text/*.c,tests/outside/*.h text/*.h,-Itext))
 $(eval $(call program,tests,replay,tests/cases/*.c,tests/cases/*.h,))
 
 # One after the other, the quick ones first. The last line is that of `rt ci`: N passed, 0 failed.
