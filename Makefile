@@ -96,6 +96,7 @@ build/tests/$(2)-sanitized: $(3) $(ARCHIVE) $(HEADER) $(wildcard $(4))
 	$$(COMPILE_C) $(SANITIZE) $(5) $$(filter %.c,$$^) $(ARCHIVE) -o $$@
 endef
 $(eval $(call program,bin,night,driver/*.c text/*.c,driver/*.h text/*.h,-Itext))
+$(eval $(call program,bin,try,try/*.c text/*.c,try/*.h text/*.h,-Itext))
 $(eval $(call program,tests,compare,tests/compare/*.c second/*.c,tests/compare/*.h second/*.h,-Isecond))
 $(eval $(call program,tests,pages,tests/pages/*.c,tests/pages/*.h second/layout.h,-Isecond))
 $(eval $(call program,tests,outside,tests/outside/*.c text/*.c,tests/outside/*.h text/*.h,-Itext))
