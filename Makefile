@@ -103,7 +103,7 @@ $(eval $(call program,tests,outside,tests/outside/*.c text/*.c,tests/outside/*.h
 $(eval $(call program,tests,replay,tests/cases/*.c,tests/cases/*.h,))
 
 # One after the other, the quick ones first. The last line is that of `rt ci`: N passed, 0 failed.
-TESTS := need header crates names promises opened install driver outside pages cases compare
+TESTS := need header crates names promises opened install driver outside try pages cases compare
 .PHONY: test
 test:
 	@for test in $(TESTS); do \
@@ -155,6 +155,9 @@ test-outside: build/tests/outside $(SANITIZED:%=build/tests/outside%) tests/outs
 	$(RUN) build/tests/outside $(filter %.txt,$^)
 	$(SANITIZED:%=build/tests/outside% $(filter %.txt,$^))
 	$(call faults,outside)
+
+test-try: build/bin/try $(SANITIZED:%=build/tests/try%) tests/try/run
+	tests/try/run $(filter build/%,$^)
 
 # The cases over the archive, and what the program that plays them does with input that they don't have.
 test-cases: build/tests/replay $(SANITIZED:%=build/tests/replay%)
