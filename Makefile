@@ -15,6 +15,7 @@ ifeq ($(shell uname -m),x86_64)
 CC := gcc
 CXX := g++
 AR := ar
+NM := nm
 RUN :=
 SANITIZED := -sanitized
 else
@@ -22,6 +23,7 @@ CC := x86_64-linux-gnu-gcc -static
 # not -static: the cross libm.a is a linker script whose paths Debian leaves as they are on x86-64
 CXX := x86_64-linux-gnu-g++
 AR := x86_64-linux-gnu-ar
+NM := x86_64-linux-gnu-nm
 RUN := qemu-x86_64 -L /usr/x86_64-linux-gnu
 SANITIZED :=
 endif
@@ -34,7 +36,7 @@ ARCHIVE := build/lib/libdedakhumi.a
 # 0 until the customer's change requests are in, which change lengths and layouts.
 VERSION := $(shell sed -n 's/^.define DEDAKHUMI_VERSION "\(.*\)"$$/\1/p' $(HEADER))
 # for the scripts of package/, tests/ and bench/
-export CC CXX RUN VERSION HEADER ARCHIVE
+export CC CXX NM RUN VERSION HEADER ARCHIVE
 CRATES := crates.txt $(shell find crates -type f)
 
 .PHONY: all
@@ -95,15 +97,18 @@ build/tests/$(2)-sanitized: $(3) $(ARCHIVE) $(HEADER) $(wildcard $(4))
 	@mkdir -p $$(@D)
 	$$(COMPILE_C) $(SANITIZE) $(5) $$(filter %.c,$$^) $(ARCHIVE) -o $$@
 endef
-$(eval $(call program,bin,night,driver/*.c text/*.c,driver/*.h text/*.h,-Itext))
+$(eval $(call program,bin,night,driver/port/*.c driver/night/*.c text/*.c,driver/*/*.h text/*.h,-Idriver/port -Itext))
 $(eval $(call program,bin,try,try/*.c text/*.c,try/*.h text/*.h,-Itext))
+$(eval $(call program,tests,port,driver/port/*.c tests/port/*.c,driver/port/*.h tests/port/*.h,-Idriver/port))
+$(eval $(call program,tests,header,tests/header/helpers.c,,))
+$(eval $(call program,tests,cost,tests/cost/*.c,tests/cost/*.h,))
 $(eval $(call program,tests,compare,tests/compare/*.c second/*.c,tests/compare/*.h second/*.h,-Isecond))
 $(eval $(call program,tests,pages,tests/pages/*.c,tests/pages/*.h second/layout.h,-Isecond))
 $(eval $(call program,tests,outside,tests/outside/*.c text/*.c,tests/outside/*.h text/*.h,-Itext))
 $(eval $(call program,tests,replay,tests/cases/*.c,tests/cases/*.h,))
 
 # One after the other, the quick ones first. The last line is that of `rt ci`: N passed, 0 failed.
-TESTS := need header crates names promises opened install driver outside try pages cases compare
+TESTS := need header crates names promises opened clauses install cost port driver outside try pages cases compare
 .PHONY: test
 test:
 	@for test in $(TESTS); do \
@@ -117,12 +122,18 @@ test:
 test-need:
 	tests/need test
 
-# Alone in both languages, then the layouts.
-test-header:
+# Alone in both languages, then the layouts, then what its functions make and read.
+test-header: build/tests/header build/tests/header-c++
 	$(COMPILE_C) -fsyntax-only -x c $(HEADER)
 	$(COMPILE_CXX) -fsyntax-only -x c++ $(HEADER)
 	$(COMPILE_C) -fsyntax-only tests/header/layout.c
 	$(COMPILE_CXX) -fsyntax-only -x c++ tests/header/layout.c
+	$(RUN) build/tests/header
+	$(RUN) build/tests/header-c++
+
+build/tests/header-c++: tests/header/helpers.c $(ARCHIVE) $(HEADER)
+	@mkdir -p $(@D)
+	$(COMPILE_CXX) -x c++ $< -x none $(ARCHIVE) -o $@
 
 test-crates: tests/crates
 	tests/crates
@@ -132,6 +143,13 @@ test-names: tests/names
 
 test-install: $(ARCHIVE)
 	tests/install/run
+
+# What a driver's author copies, alone and with a driver around it that is not the night's.
+test-port: build/tests/port $(SANITIZED:%=build/tests/port%) tests/port/alone
+	tests/port/alone
+	$(RUN) build/tests/port
+	$(SANITIZED:%=build/tests/port%)
+	$(call faults,port)
 
 test-driver: build/bin/night $(SANITIZED:%=build/tests/night%)
 	tests/driver $(filter build/%,$^)
@@ -163,8 +181,15 @@ test-try: build/bin/try $(SANITIZED:%=build/tests/try%) tests/try/run
 test-cases: build/tests/replay $(SANITIZED:%=build/tests/replay%)
 	@for replay in $(abspath $^); do tests/cases/run $(RUN) "$$replay"; tests/cases/try-frames $(RUN) "$$replay"; done
 
+# Not sanitized: a sanitizer has its own way with stacks.
+test-cost: build/tests/cost
+	$(RUN) build/tests/cost
+
 test-promises: tests/promises
 	tests/promises
 
 test-opened: tests/opened
 	tests/opened
+
+test-clauses: tests/clauses
+	tests/clauses

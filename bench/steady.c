@@ -20,21 +20,29 @@ static uint8_t table[TABLE_LENGTH], report[REPORT_LENGTH];
 static void apply(uint8_t kind, unsigned number)
 {
 	uint8_t nexus = number % NEXUS_COUNT;
-	uint8_t event[EVENT_LENGTH] = {0x54, 0x56, kind, nexus, 0, kind == COMMAND ? COMMAND_EXEMPT : 0, TAG_BYTES(number)};
-	struct dedakhumi_answer answer = APPLY(table, sizeof table, report, sizeof report, event, sizeof event);
+	struct dedakhumi_event event = dedakhumi_event_of(kind, nexus, 0, kind == COMMAND ? COMMAND_EXEMPT : 0, (dedakhumi_tag)number);
+	struct dedakhumi_answer answer = APPLY(table, sizeof table, report, sizeof report, event.bytes, sizeof event.bytes);
 	if (answer.answer != 0) {
 		fprintf(stderr, "kind %u of %u.%u was answered %u\n", kind, nexus, number, answer.answer);
 		exit(1);
 	}
 }
 
-int main(int argc, char **argv)
+static bool read_number(const char *text, unsigned long most, unsigned *number)
 {
-	if (argc != 3) {
-		fprintf(stderr, "use: steady TASKS EVENTS\n");
+	char *end;
+	unsigned long value = strtoul(text, &end, 10);
+	*number = (unsigned)value;
+	return *text >= '0' && *text <= '9' && *end == '\0' && value <= most;
+}
+
+int main(int argument_count, char **arguments)
+{
+	unsigned tasks, events;
+	if (argument_count != 3 || !read_number(arguments[1], TASK_LIMIT, &tasks) || !read_number(arguments[2], UINT16_MAX, &events)) {
+		fprintf(stderr, "usage: steady TASKS EVENTS, with at most %d tasks and %d events\n", TASK_LIMIT, UINT16_MAX);
 		return 2;
 	}
-	unsigned tasks = (unsigned)atoi(argv[1]), events = (unsigned)atoi(argv[2]);
 	if (START(table, sizeof table, 0) != 0)
 		return 1;
 	for (unsigned number = 0; number < tasks; number++)

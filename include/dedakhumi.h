@@ -1,22 +1,23 @@
 /* Dedakhumi: the task set of a SCSI target box, for the port driver that lends it its bytes. One logical unit, one task set of up to 64
    tasks, shared by eight I_T nexuses numbered 0 to 7. It says which task may run and which has to wait, whose turn it is, and who is told
-   of an abort; it moves no data and knows no command but by its nexus, tag and task attribute. Names in capitals are SAM-4's.
+   of an abort; it moves no data and knows no command but by its nexus, tag and task attribute. Names in capitals are SAM-4's. What stands
+   here is enough to write a driver; "RULES 5.2" is a clause of the law in full, RULES.md, which is installed in share/doc/dedakhumi.
 
    HOW A DRIVER GOES
-   1. Lend a table of DEDAKHUMI_TABLE_LENGTH bytes and call dedakhumi_start once, with the policy. It is fixed from then on.
+   1. Lend a table of DEDAKHUMI_TABLE_LENGTH bytes and call dedakhumi_start once, with the policy, which is fixed from then on.
    2. For each command, completion, management function and condition make an event (the functions at the end) and call dedakhumi_apply.
-   3. After each answer 0 or 7 send what the report lists: `ended` records, each a task that has left the table, with the status for its
-      host; FFh is sent to nobody, but the disk has to let go of the task all the same. Drop what was kept for it.
-   4. A COMMAND answered 0 is a task now: keep its command block by nexus and tag. Answered 7 it is none: send the answer's status and
-      sense (key, code, qualifier), and keep nothing.
-   5. Call dedakhumi_name, run the task that it names, give its end as a COMPLETION, and so on. A driver may run every task whose state
-      is enabled, side by side: any enabled task may be completed, and completions of others than the named one count no turn.
-   6. The wait that is promised: a task accepted with another attribute than ACA while k older tasks were in the table has ended by the
-      5 x (k + 1)th turn from then on, whatever else comes between. A turn is the completion, answered 0 and without an ACA, of the task
-      that dedakhumi_name gives just before it. So the promise helps where the named task is run.
-   Whose turn it is: with an ACA that of the ACA task, if there is one, and else nobody's. Without one that of the oldest enabled HEAD OF
-   QUEUE task, but where the last four turns were such tasks' (run is 4) and a SIMPLE or ORDERED task is enabled, or where no HEAD OF QUEUE
-   task is, that of the oldest enabled task.
+   3. Under the answers 0 and 7 send what the report lists: `ended` records, each a task that has left the table, with the status for its
+      host. FFh is sent to nobody, but the disk has to let go of the task all the same. Drop what was kept for it.
+   4. A COMMAND answered 0 is a task now: keep its command block, found by nexus and tag. Answered 7 it is none: send the answer's status
+      and sense, and keep nothing. A MANAGEMENT answered 0 is FUNCTION COMPLETE, and 8 is FUNCTION REJECTED.
+   5. Call dedakhumi_name, run the task that it names, give its end as a COMPLETION, and so on. A driver may also run every task whose
+      state is enabled, side by side: any of them may be completed; only a completion of the named one is a turn.
+   6. The wait that is promised (RULES 23.5): a task accepted with another attribute than ACA while k older tasks were in the table has
+      ended by the 5 x (k + 1)th turn after that, whatever else comes between. A turn is a COMPLETION, answered 0 and without an ACA, of
+      the task that dedakhumi_name gives just before it; so the promise is worth something where the named task is run.
+   Whose turn it is (RULES 2.10 to 2.12): with an ACA it is that of the ACA task, if there is one, and else nobody's. Without one it is that
+   of the oldest enabled HEAD OF QUEUE task, unless there is none, or the last four turns were such tasks' (run is 4) and a SIMPLE or
+   ORDERED task is enabled: then it is that of the oldest enabled task.
 
    WHAT A DRIVER OWES TO ITS DISK AND HOSTS
    - An aborted task leaves the table at once, and tasks that waited for it are enabled in the same event, while the disk may still be
@@ -24,8 +25,8 @@
      enabled, after that.
    - A COMPLETION of a task that an ACA has blocked, or that is dormant, is answered 6. The driver keeps it, and gives it again when the
      task is enabled; the report of the event that ends the task otherwise tells it to drop the completion.
-   - A COMPLETION is for the command that is in the table now. Before a tag is used again, the disk has let go of the task that had it: a late
-     completion of an ended task is answered 5 while the tag is unused, and would be taken for the new task's once it is used again.
+   - A COMPLETION is for the command that is in the table now. Before a tag is used again, the disk has let go of the task that had it: a
+     late completion of an ended task is answered 5 while the tag is unused, and would be taken for the new task's once it is used again.
    - After answer 1 there is no table any more: start over with the policy kept beside it. The tasks are lost, and each host will be told
      of a power on.
 
@@ -41,11 +42,12 @@
    Bytes need no alignment. A table may be copied, stored and lent again from another place.
 
    WHAT IT COSTS
-   The archive is for x86-64, System V calls. It allocates nothing, keeps nothing between calls, calls nothing but memset, and never blocks.
-   It uses the red zone and SSE registers: as it is built it is not for a kernel or an interrupt handler. Stack below the caller's, without
-   memset's: DEDAKHUMI_APPLY_STACK, DEDAKHUMI_NAME_STACK and DEDAKHUMI_START_STACK bytes. Instructions of dedakhumi_apply by the number of
-   tasks: @MEAN@; no event was found that takes more
-   than @LARGEST@. */
+   - The archive is for x86-64 with System V calls. It allocates nothing, keeps nothing between calls, calls nothing but memset, and never
+     blocks. It uses the red zone and SSE registers: as it is built it is not for a kernel or an interrupt handler.
+   - Stack: DEDAKHUMI_APPLY_STACK, DEDAKHUMI_NAME_STACK and DEDAKHUMI_START_STACK bytes, return address included; memset's own come to that.
+   - Instructions of dedakhumi_apply: in steady work 860 an event at 3 tasks, 2,080 at 16 and 9,470 at 64. The most that a search found is
+     28,386: a CHECK CONDITION of the ACA task under QERR 01b on a lent table with 63 other tasks; and 27,076 where a start leads there: a
+     CHECK CONDITION under QERR 01b with 64 tasks. Both end all tasks, so that no two such events follow each other. */
 #ifndef DEDAKHUMI_H
 #define DEDAKHUMI_H
 
@@ -62,20 +64,29 @@ extern "C" {
 #define DEDAKHUMI_INTERFACE 1
 #define DEDAKHUMI_INTERFACE_SYMBOL dedakhumi_interface_1
 
-/* The archive defines the symbol of its own interface alone, and each file that includes this header asks for the header's: of two interfaces
-   a program is not linked. */
+/* The archive defines the symbol of its own interface alone, and each file that includes this header asks for the header's: an old header
+   with a new archive, or the other way round, fails to link. It is kept where the linker drops what is not used (--gc-sections). */
+#if defined(__has_attribute)
+#if __has_attribute(retain)
+#define DEDAKHUMI_KEPT __attribute__((used, retain))
+#endif
+#endif
+#ifndef DEDAKHUMI_KEPT
+#define DEDAKHUMI_KEPT __attribute__((used))
+#endif
 extern const uint8_t DEDAKHUMI_INTERFACE_SYMBOL;
-static const uint8_t *const dedakhumi_interface_asked __attribute__((used)) = &DEDAKHUMI_INTERFACE_SYMBOL;
+static const uint8_t *const dedakhumi_interface_asked DEDAKHUMI_KEPT = &DEDAKHUMI_INTERFACE_SYMBOL;
+#undef DEDAKHUMI_KEPT
 
 /* A task is known by its nexus and its tag. In a record the tag is big-endian. */
 typedef uint16_t dedakhumi_tag;
 
-/* Bytes of stack that a call takes at the most; tests/cost measures it. */
+/* Bytes of stack that a call takes at the most. */
 #define DEDAKHUMI_APPLY_STACK 544
-#define DEDAKHUMI_NAME_STACK 400
-#define DEDAKHUMI_START_STACK 0
+#define DEDAKHUMI_NAME_STACK 416
+#define DEDAKHUMI_START_STACK 8
 
-/* Lengths in bytes, and numbers of records. */
+/* Lengths in bytes, and numbers of records (RULES 13). */
 #define DEDAKHUMI_HEADER_LENGTH 8
 #define DEDAKHUMI_NEXUS_LENGTH 8
 #define DEDAKHUMI_TASK_LENGTH 8
@@ -91,7 +102,7 @@ typedef uint16_t dedakhumi_tag;
 #define DEDAKHUMI_NEXUS_OFFSET 8
 #define DEDAKHUMI_TASK_OFFSET 72
 
-/* Every record is 8 bytes and opens with a mark of two bytes. A tag is big-endian: byte 6 is its high byte.
+/* RULES 15 and 16. Every record is 8 bytes and opens with a mark of two bytes. A tag is big-endian: byte 6 is its high byte.
 
    byte      0  1   2        3             4           5                        6        7
    header   54 48  01       policy        task count  ACA: 0, or 1 + faulted   run      0
@@ -135,8 +146,8 @@ enum dedakhumi_place {
 	DEDAKHUMI_AT_EVENT_TAG = 6
 };
 
-/* The answer numbers, and what becomes of the two buffers. "Same" means that no byte of it changes. The lowest of 1 to 4 that applies is
-   given, and each is given only then. */
+/* The answer numbers (RULES 18), and what becomes of the two buffers. "Same" means that no byte of it changes. The lowest of 1 to 4 that
+   applies is given, and each is given only then. */
 enum dedakhumi_answer_number {
 	/* Done.                                                                Table as ruled, report written whole. */
 	DEDAKHUMI_DONE = 0,
@@ -160,7 +171,7 @@ enum dedakhumi_answer_number {
 	DEDAKHUMI_BAD_POLICY = 9
 };
 
-/* The policy byte: one QERR value, with or without TAS. QERR 10b and bits 3 to 7 are a bad policy. It survives every reset. */
+/* The policy byte (RULES 14.4): one QERR value, with or without TAS. QERR 10b and bits 3 to 7 are a bad policy. It survives every reset. */
 enum dedakhumi_policy {
 	/* a CHECK CONDITION aborts no other task */
 	DEDAKHUMI_POLICY_QERR_NONE = 0x00,
@@ -172,7 +183,7 @@ enum dedakhumi_policy {
 	DEDAKHUMI_POLICY_TAS = 0x04
 };
 
-/* Byte 2 of an event. Of the fields that are not named beside a kind, each has to be 0. */
+/* Byte 2 of an event (RULES 16). Of the fields that are not named beside a kind, each has to be 0. */
 enum dedakhumi_kind {
 	/* nexus, tag; first: the attribute, any byte; second: DEDAKHUMI_CONTROL_NACA, DEDAKHUMI_CONTROL_EXEMPT */
 	DEDAKHUMI_KIND_COMMAND = 1,
@@ -192,7 +203,7 @@ enum dedakhumi_control {
 	DEDAKHUMI_CONTROL_EXEMPT = 0x02
 };
 
-/* Byte 4 of a MANAGEMENT. Any other is unknown and rejected with 8. */
+/* Byte 4 of a MANAGEMENT (RULES 7). Any other is unknown and rejected with 8. */
 enum dedakhumi_function {
 	DEDAKHUMI_FUNCTION_ABORT_TASK = 1,
 	DEDAKHUMI_FUNCTION_ABORT_TASK_SET = 2,
@@ -202,22 +213,27 @@ enum dedakhumi_function {
 	DEDAKHUMI_FUNCTION_LOGICAL_UNIT_RESET = 5
 };
 
-/* Byte 4 of a CONDITION. Any other is a bad event. */
+/* Byte 4 of a CONDITION (RULES 8). Any other is a bad event. */
 enum dedakhumi_condition {
 	DEDAKHUMI_CONDITION_POWER_ON = 1,
 	DEDAKHUMI_CONDITION_HARD_RESET = 2,
 	DEDAKHUMI_CONDITION_NEXUS_LOSS = 3
 };
 
-/* Byte 4 of a COMMAND, byte 3 of a task. A COMMAND with another byte, or with ACA while no ACA is in effect, ends at entry. */
+/* Byte 4 of a COMMAND, byte 3 of a task (RULES 2.2 to 2.6). A COMMAND with another byte, or with ACA while no ACA is in effect, ends at
+   entry. */
 enum dedakhumi_attribute {
+	/* waits for older HEAD OF QUEUE and ORDERED tasks */
 	DEDAKHUMI_ATTRIBUTE_SIMPLE = 0,
+	/* waits for nobody */
 	DEDAKHUMI_ATTRIBUTE_HEAD_OF_QUEUE = 1,
+	/* waits for every older task */
 	DEDAKHUMI_ATTRIBUTE_ORDERED = 2,
+	/* for the faulted nexus, one at a time; waits for nobody */
 	DEDAKHUMI_ATTRIBUTE_ACA = 4
 };
 
-/* Byte 4 of a task. */
+/* Byte 4 of a task (RULES 2.7 to 2.9). */
 enum dedakhumi_state {
 	/* waits for older tasks */
 	DEDAKHUMI_STATE_DORMANT = 1,
@@ -227,7 +243,7 @@ enum dedakhumi_state {
 	DEDAKHUMI_STATE_BLOCKED = 3
 };
 
-/* SAM-4's status codes: the status of an answer 7, or byte 3 of an ended record. */
+/* SAM-4's status codes: the status of an answer 7 (RULES 5), or byte 3 of an ended record (RULES 4.4). */
 enum dedakhumi_status {
 	DEDAKHUMI_STATUS_GOOD = 0x00,
 	DEDAKHUMI_STATUS_CHECK_CONDITION = 0x02,
@@ -239,8 +255,8 @@ enum dedakhumi_status {
 	DEDAKHUMI_STATUS_NONE = 0xFF
 };
 
-/* Byte 3 of a nexus record: the unit attentions that wait for its next command, highest rank first. Each is reported by CHECK CONDITION
-   with key 6h and the code and qualifier beside it. */
+/* Byte 3 of a nexus record (RULES 3): the unit attentions that wait for its next command, highest rank first. Each is reported by CHECK
+   CONDITION with key 6h and the code and qualifier beside it. */
 enum dedakhumi_pending {
 	/* 29h/00h */
 	DEDAKHUMI_PENDING_POWER_ON = 0x01,
@@ -254,7 +270,7 @@ enum dedakhumi_pending {
 	DEDAKHUMI_PENDING_COMMANDS_CLEARED = 0x10
 };
 
-/* The sense keys of an answer 7 with CHECK CONDITION. */
+/* The sense keys of an answer 7 with CHECK CONDITION (RULES 5.2, 5.8 and 5.11). */
 enum dedakhumi_sense_key {
 	/* 49h/00h: an attribute that is none of the four, or ACA without an ACA */
 	DEDAKHUMI_SENSE_KEY_ILLEGAL_REQUEST = 0x5,

@@ -1,4 +1,4 @@
-/* Entry of a command: the paper's six checks in their order. */
+/* Entry of a command: the six checks in their order (RULES 5). */
 #include "parts.h"
 
 static struct dedakhumi_answer entry_status(uint8_t *report, uint8_t status)

@@ -1,7 +1,7 @@
-/* "Ends, ACA and aborts" for a completed task, and the run that its turn counts. */
+/* The end of a completed task (RULES 6), and the run that its turn counts (RULES 1.15). */
 #include "parts.h"
 
-/* Turn rule: only the task named before the event counts, and no ACA task. */
+/* RULES 1.16 and 9.2: only the task named before the event counts, and no ACA task. */
 static void count_turn(uint8_t *table, size_t place)
 {
 	if (second_turn(table) != place)

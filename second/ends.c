@@ -8,7 +8,7 @@ static bool ends(const struct ending *ending, const uint8_t *task, size_t place)
 	return ending->scope == ENDS_NEXUS && task[TASK_NEXUS] == ending->causing_nexus;
 }
 
-/* "Aborted tasks end with FFh, with one exception" */
+/* RULES 4.4: aborted tasks end with FFh, with one exception; 6.1 says who is told. */
 static uint8_t ending_status(uint8_t *table, const struct ending *ending, const uint8_t *task, size_t place)
 {
 	if (place == ending->named)
@@ -58,7 +58,7 @@ uint8_t second_end_tasks(uint8_t *table, uint8_t *report, const struct ending *e
 	return (uint8_t)ended;
 }
 
-/* "After any event that ends without ACA, every eligible task is enabled." */
+/* RULES 2.7: every eligible task is enabled, every other one dormant. */
 void second_enable_eligible(uint8_t *table)
 {
 	size_t count = table[HEADER_COUNT];
@@ -74,7 +74,7 @@ void second_enable_eligible(uint8_t *table)
 	}
 }
 
-/* "When ACA begins, enabled tasks become blocked; dormant ones stay so" */
+/* RULES 2.8: enabled tasks become blocked, dormant ones stay dormant. */
 void second_block_enabled(uint8_t *table)
 {
 	size_t count = table[HEADER_COUNT];

@@ -1,4 +1,4 @@
-/* "Bytes", "Event records" and "Answer numbers" of the paper. */
+/* Records, numbers in bytes and answer numbers (RULES 13 to 16 and 18.1). */
 #ifndef SECOND_LAYOUT_H
 #define SECOND_LAYOUT_H
 

@@ -40,7 +40,7 @@ struct dedakhumi_answer second_completion(uint8_t *table, uint8_t *report, const
 struct dedakhumi_answer second_management(uint8_t *table, uint8_t *report, const uint8_t *event);
 struct dedakhumi_answer second_condition(uint8_t *table, uint8_t *report, const uint8_t *event);
 
-/* Eligible (002, clause 8.6); barrier says that an older task is HEAD OF QUEUE or ORDERED. */
+/* RULES 2.2 to 2.4; barrier says that an older task is HEAD OF QUEUE or ORDERED. */
 static inline bool is_eligible(uint8_t attribute, size_t place, bool barrier)
 {
 	switch (attribute) {

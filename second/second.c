@@ -16,7 +16,7 @@ static void write_nexus_records(uint8_t *table)
 	}
 }
 
-/* "A fresh table equals the state after power on." */
+/* RULES 4.2: as after power on. */
 uint8_t second_start(uint8_t *table, size_t table_len, uint8_t policy)
 {
 	if (table_len != TABLE_LENGTH)

@@ -1,4 +1,4 @@
-/* The paper's three operations a second time, in C by hand: what the proved archive is compared and measured with. */
+/* The three operations (RULES 19) a second time, in C by hand: what the proved archive is compared and measured with. */
 #ifndef SECOND_H
 #define SECOND_H
 

@@ -7,6 +7,7 @@
 #include <stdlib.h>
 #include <string.h>
 
+#include "../usage.h"
 #include "dump.h"
 
 enum { HEAD = 8, LONGEST = 1024 };
@@ -120,8 +121,10 @@ static void play_frame(struct stage *stage, const struct frame *frame)
 	}
 }
 
-int main(void)
+int main(int argument_count, char **arguments)
 {
+	(void)arguments;
+	take_no_argument("replay", argument_count);
 	struct stage stage = {new_buffer((const uint8_t *)"", 0), new_buffer((const uint8_t *)"", 0)};
 	struct frame frame;
 	while (read_frame(&frame)) {

@@ -3,9 +3,9 @@
 
 void event_write(struct step *step, uint8_t kind, uint8_t nexus, uint8_t first, uint8_t second, tag_number tag)
 {
-	const uint8_t event[EVENT_LENGTH] = { 0x54, 0x56, kind, nexus, first, second, TAG_BYTES(tag) };
+	struct dedakhumi_event event = dedakhumi_event_of(kind, nexus, first, second, tag);
 
-	memcpy(step->event, event, sizeof event);
+	memcpy(step->event, event.bytes, sizeof event.bytes);
 }
 
 uint8_t random_status(uint64_t *random, unsigned good_percent)

@@ -1,4 +1,4 @@
-/* Every first byte with each kind, and the values of the other fields at which a clause of "Event records" turns. */
+/* Every first byte with each kind, and the values of the other fields at which a clause of RULES 16 turns. */
 #include "events.h"
 #include "random.h"
 #include "session.h"

@@ -1,5 +1,5 @@
 /*
- * Compares the proved archive with the second implementation: build/compare [FACTOR [SEED]].
+ * Compares the proved archive with the second implementation: build/tests/compare [FACTOR [SEED]].
  * It is linked from every C file of tests/compare and second and from the archive.
  * FACTOR multiplies the length of the run and may be below 1; the same SEED makes the same run.
  */

@@ -218,7 +218,7 @@ static bool same_results(struct run *run, const struct trial *trial, const struc
 			ROOM_LENGTH - step->event_length);
 }
 
-/* The last two columns of the paper's answer numbers, and that nothing is written outside. */
+/* Which buffers stay the same under which answer (RULES 18.3 and 19.1), and that nothing is written outside. */
 static bool kept_as_ruled(struct run *run, struct stretch table, struct stretch report)
 {
 	uint8_t answer = run->difference.answers[ARCHIVE].answer;

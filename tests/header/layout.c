@@ -1,4 +1,5 @@
-/* The layouts that the archive's code was compiled for, and the paper's sums. Compiled as C11 and as C++17; there is nothing to run. */
+/* The layouts that the archive's code was compiled for, and the sums of lengths. Compiled as C11 and as C++17; there is nothing to run. A line that
+   has to change here is a change of the interface, and DEDAKHUMI_INTERFACE goes up with it. */
 #include <assert.h>
 
 #include "dedakhumi.h"
@@ -22,9 +23,9 @@ static_assert(DEDAKHUMI_TASK_OFFSET == DEDAKHUMI_NEXUS_OFFSET + DEDAKHUMI_NEXUSE
 static_assert(DEDAKHUMI_TABLE_LENGTH == DEDAKHUMI_TASK_OFFSET + DEDAKHUMI_TASKS * DEDAKHUMI_TASK_LENGTH, "64 task records");
 static_assert(DEDAKHUMI_REPORT_LENGTH == DEDAKHUMI_TASKS * DEDAKHUMI_ENDED_LENGTH, "64 ended records");
 
-/* DEDAKHUMI_RECORD_LENGTH is there for as long as it is true of every record. */
-static_assert(DEDAKHUMI_HEADER_LENGTH == DEDAKHUMI_RECORD_LENGTH, "a header");
-static_assert(DEDAKHUMI_NEXUS_LENGTH == DEDAKHUMI_RECORD_LENGTH, "a nexus record");
-static_assert(DEDAKHUMI_TASK_LENGTH == DEDAKHUMI_RECORD_LENGTH, "a task record");
-static_assert(DEDAKHUMI_ENDED_LENGTH == DEDAKHUMI_RECORD_LENGTH, "an ended record");
-static_assert(DEDAKHUMI_EVENT_LENGTH == DEDAKHUMI_RECORD_LENGTH, "an event");
+static_assert(DEDAKHUMI_INTERFACE == 1, "the number that goes with these layouts");
+static_assert(sizeof(dedakhumi_tag) == 2, "a tag's bytes");
+static_assert(sizeof(struct dedakhumi_event) == DEDAKHUMI_EVENT_LENGTH, "an event is its bytes and no more");
+static_assert(DEDAKHUMI_AT_TASK_TAG + sizeof(dedakhumi_tag) == DEDAKHUMI_TASK_LENGTH, "a task record ends with its tag");
+static_assert(DEDAKHUMI_AT_ENDED_TAG + sizeof(dedakhumi_tag) == DEDAKHUMI_ENDED_LENGTH, "an ended record ends with its tag");
+static_assert(DEDAKHUMI_AT_EVENT_TAG + sizeof(dedakhumi_tag) == DEDAKHUMI_EVENT_LENGTH, "an event ends with its tag");

@@ -37,7 +37,7 @@ static void expect(enum answer answer, enum answer expected)
 	static char why[60];
 	if (answer == expected)
 		return;
-	snprintf(why, sizeof why, "answer %d where document 01 says %d", (int)answer, (int)expected);
+	snprintf(why, sizeof why, "answer %d where the rules say %d", (int)answer, (int)expected);
 	watch_fail(why);
 }
 
@@ -64,7 +64,7 @@ static bool report_is_zeros(void)
 	return true;
 }
 
-/* "Answer numbers": under 1 to 6 both buffers are the same, under 8 the table is and the report is zeros. */
+/* RULES 18.3 and 19.1: under 1 to 6 both buffers are the same, under 8 the table is and the report is zeros. */
 static void check_kept(const struct application *application, enum answer answer)
 {
 	if ((is_refusal(answer) || answer == REJECTED) && !fence_same(&table, application->table))

@@ -4,7 +4,7 @@
 
 #include "fence.h"
 
-/* Document 01, "Answer numbers". */
+/* RULES 18.1 */
 enum answer {
 	DONE = 0,
 	BAD_TABLE = 1,
@@ -25,7 +25,7 @@ struct application {
 };
 
 void calls_prepare(void);
-/* The refusal is the one of 1 to 4 that document 01 asks for, or DONE if it asks for none of them. */
+/* The refusal is the one of 1 to 4 that RULES 19.3 asks for, or DONE if it asks for none of them. */
 enum answer call_apply(const struct application *application, enum answer refusal);
 void call_start(const char *what, struct lent table, enum place place, uint8_t policy, enum answer expected);
 enum answer call_name(const char *what, struct lent table, enum place place);

@@ -1,4 +1,4 @@
-/* Tables that document 01, "A table is well formed if", refuses. */
+/* Tables that are not well formed (RULES 17.3). */
 #include "samples.h"
 
 struct change {

@@ -4,6 +4,7 @@
 #include <stdlib.h>
 #include <string.h>
 
+#include "../usage.h"
 #include "calls.h"
 #include "samples.h"
 
@@ -60,12 +61,12 @@ static void start_everywhere(const char *what, struct lent table, uint8_t policy
 static void apply_each_event(const struct sample_table *table, bool good)
 {
 	for (size_t i = 0; i < sample_event_count; i++) {
-		const struct sample_event *event = &sample_events[i];
-		struct application application = {.what = join(event->name, table->name),
+		struct sample_event sample = sample_event(i);
+		struct application application = {.what = join(sample.name, table->name),
 						  .table = lend(table->bytes, sizeof table->bytes),
 						  .report = lend(report_bytes, REPORT_LENGTH),
-						  .event = lend(event->bytes, sizeof event->bytes)};
-		apply_everywhere(application, good ? event->refusal : BAD_TABLE);
+						  .event = lend(sample.event.bytes, sizeof sample.event.bytes)};
+		apply_everywhere(application, good ? sample.refusal : BAD_TABLE);
 	}
 }
 
@@ -144,12 +145,13 @@ static void try_lengths_of_one_table(size_t index)
 	sample_good_table(index, &table);
 	uint8_t *table_bytes = repeated(table.bytes, sizeof table.bytes);
 	for (size_t i = 0; i < sample_event_count; i += 6) {
-		uint8_t *event_bytes = repeated(sample_events[i].bytes, EVENT_LENGTH);
-		struct application application = {.what = join(sample_events[i].name, table.name),
+		struct sample_event sample = sample_event(i);
+		uint8_t *event_bytes = repeated(sample.event.bytes, sizeof sample.event.bytes);
+		struct application application = {.what = join(sample.name, table.name),
 						  .table.bytes = table_bytes,
 						  .report.bytes = report_bytes,
 						  .event.bytes = event_bytes};
-		apply_each_length(application, sample_events[i].refusal);
+		apply_each_length(application, sample.refusal);
 		free(event_bytes);
 	}
 	free(table_bytes);
@@ -165,13 +167,14 @@ static void try_lengths(void)
 static void try_null_pointers(void)
 {
 	struct sample_table table;
+	struct sample_event sample = sample_event(0);
 	sample_good_table(0, &table);
 	for (unsigned nulls = 1; nulls < 1u << BUFFERS; nulls++) {
 		struct application application = {
 			.what = "null pointers",
 			.table = nulls & 1 ? lend_null() : lend(table.bytes, sizeof table.bytes),
 			.report = nulls & 2 ? lend_null() : lend(report_bytes, REPORT_LENGTH),
-			.event = nulls & 4 ? lend_null() : lend(sample_events[0].bytes, EVENT_LENGTH)};
+			.event = nulls & 4 ? lend_null() : lend(sample.event.bytes, sizeof sample.event.bytes)};
 		apply_everywhere(application,
 				 refusal_by_length(application.table.length, application.report.length, application.event.length, DONE));
 	}
@@ -203,18 +206,18 @@ static void try_start_and_name_lengths(void)
 }
 
 /* Whether a table with one byte changed is good is for name to say; apply has to agree. */
-static void try_changed_table(const struct sample_table *table, const struct sample_event *event, enum place place)
+static void try_changed_table(const struct sample_table *table, const struct sample_event *sample, enum place place)
 {
 	struct lent lent = lend(table->bytes, sizeof table->bytes);
-	struct application application = {.what = join(event->name, table->name),
+	struct application application = {.what = join(sample->name, table->name),
 					  .table = lent,
 					  .report = lend(report_bytes, REPORT_LENGTH),
-					  .event = lend(event->bytes, sizeof event->bytes),
+					  .event = lend(sample->event.bytes, sizeof sample->event.bytes),
 					  .table_place = place,
 					  .report_place = place,
 					  .event_place = place};
 	enum answer named = call_name("one byte changed", lent, place);
-	call_apply(&application, named == DONE ? event->refusal : BAD_TABLE);
+	call_apply(&application, named == DONE ? sample->refusal : BAD_TABLE);
 }
 
 static void try_each_changed_byte(size_t index)
@@ -227,9 +230,9 @@ static void try_each_changed_byte(size_t index)
 		size_t offset = i % sizeof table.bytes;
 		uint8_t before = table.bytes[offset];
 		table.bytes[offset] ^= others[i / sizeof table.bytes];
-		const struct sample_event *event = &sample_events[i % sample_event_count];
-		try_changed_table(&table, event, AT_START);
-		try_changed_table(&table, event, AT_END);
+		struct sample_event sample = sample_event(i % sample_event_count);
+		try_changed_table(&table, &sample, AT_START);
+		try_changed_table(&table, &sample, AT_END);
 		table.bytes[offset] = before;
 	}
 }
@@ -240,8 +243,10 @@ static void try_changed_bytes(void)
 		try_each_changed_byte(i);
 }
 
-int main(void)
+int main(int argument_count, char **arguments)
 {
+	(void)arguments;
+	take_no_argument("pages", argument_count);
 	calls_prepare();
 	report_bytes = malloc(fence_page_length());
 	if (report_bytes == NULL)

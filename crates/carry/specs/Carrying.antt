@@ -1,3 +1,4 @@
+-- Believed by nobody: code's own way of walking, proved equal to what the rules say (docs/TRUST.md).
 -- The steps of a change that are not loops.
 --
 --   notedUnlessQuiet k ls b  := the nexus records after a notice, if there is one

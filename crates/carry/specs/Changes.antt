@@ -1,3 +1,4 @@
+-- Believed by nobody: code's own way of walking, proved equal to what the rules say (docs/TRUST.md).
 -- What the function that carries a change out asks and promises, in states.
 use Prim.Native.Nat.{ℕ, _≤_}
 use mathlib.Core.Path.{_≡_}

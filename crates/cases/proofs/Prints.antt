@@ -1,4 +1,4 @@
--- The makers make what document 01 prints, by computation.
+-- The makers make the bytes that RULES 26.2 and 13 to 15 give, by computation.
 use mathlib.Core.Bool.{true}
 use mathlib.Core.Path.{_≡_, refl}
 use Rattle.cases.specs.Play.{sameBytes, all}

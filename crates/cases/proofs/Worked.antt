@@ -1,4 +1,4 @@
--- Every case is right, by computation: document 01's A to I, and those that it lacks.
+-- Every case is right, by computation: A to K of RULES 26, and the others.
 use mathlib.Core.Bool.{true}
 use mathlib.Core.Path.{_≡_, refl}
 use Rattle.rules.specs.Tasks.{whoseTurn}

@@ -1,18 +1,18 @@
--- Document 01, "Ends, ACA and aborts": QERR, TAS, who is told.
+-- RULES 4.4 to 4.7, 6.1 and 6.2: QERR, TAS, who is told.
 use mathlib.Core.List.{[], _∷_}
 use Rattle.cases.specs.Makers.{simple, headOfQueue, dormant, enabled}
 use Rattle.cases.specs.Makers.{header, task, endedRecord, command, completion, management, condition, bits, quiet, table, listing}
 use Rattle.cases.specs.Shorthand.{answerLine, does, keeps, from}
 use Rattle.cases.specs.Play.{lend, Case}
 
--- "QERR: 00b none": the others stay as they are
+-- RULES 4.5, 00b: the others stay as they are
 abbrev pub qerrNone : Case
 qerrNone =
     from (table (header 0x04 2 0 0) quiet (task 0 simple enabled 0 1 ∷ task 0 simple enabled 0 2 ∷ []))
     (does (completion 0 0x02 1) (answerLine 0 0 0 0 0 1) (table (header 0x04 1 0 0) quiet (task 0 simple enabled 0 2 ∷ [])) (listing (endedRecord 0 0x02 1 ∷ []))
     ∷ [])
 
--- DECISIONS: "The completed task keeps its age place in the report among those aborted with it. QERR applies with NACA 1 too, before the ACA."
+-- RULES 4.9: the completed task keeps its age place. RULES 6.6: with NACA 1 too, before the ACA.
 abbrev pub qerrAll : Case
 qerrAll =
     from (table (header 0x01 3 0 0) quiet (task 1 simple enabled 0 1 ∷ task 0 simple enabled 1 1 ∷ task 2 simple enabled 0 1 ∷ []))
@@ -20,7 +20,7 @@ qerrAll =
     (table (header 0x01 0 1 0) (bits 0 0x10 0x10 0 0 0 0 0) []) (listing (endedRecord 1 0xFF 1 ∷ endedRecord 0 0x02 1 ∷ endedRecord 2 0xFF 1 ∷ []))
     ∷ [])
 
--- "11b the rest of that nexus". DECISIONS: "QERR 11b tells nobody": 0.2 gets FFh with TAS 0 and with TAS 1
+-- RULES 4.5 and 6.2, 11b: 0.2 gets FFh with TAS 0 and with TAS 1, and nobody is told
 abbrev pub qerrNexus : Case
 qerrNexus =
     from (table (header 0x03 3 0 0) quiet (task 0 simple enabled 0 1 ∷ task 1 simple enabled 0 1 ∷ task 0 simple enabled 0 2 ∷ []))
@@ -31,8 +31,7 @@ qerrNexus =
     (table (header 0x07 1 0 0) quiet (task 1 simple enabled 0 1 ∷ [])) (listing (endedRecord 0 0x02 1 ∷ endedRecord 0 0xFF 2 ∷ []))
     ∷ [])
 
--- "If TAS is 0, each other nexus that lost a task so gets bit 4." DECISIONS: "Bit 4 is set beside higher bits too, only for nexuses that lost a task
--- so, never for the causing one.": CLEAR TASK SET from 0; nexus 2 has bit 0 already, nexus 3 has no task
+-- RULES 3.9, 4.7 and 6.1: CLEAR TASK SET from 0; nexus 2 has bit 0 already, nexus 3 has no task
 abbrev pub clearTaskSet : Case
 clearTaskSet =
     from
@@ -43,7 +42,7 @@ clearTaskSet =
     (listing (endedRecord 0 0xFF 1 ∷ endedRecord 1 0xFF 1 ∷ endedRecord 2 0xFF 1 ∷ endedRecord 1 0xFF 2 ∷ []))
     ∷ [])
 
--- "tasks of a nexus other than the causing one get TASK ABORTED 40h if TAS is 1", and then no bit 4
+-- RULES 4.4 and 6.1: 40h, and then no bit 4
 abbrev pub clearTaskSetTas : Case
 clearTaskSetTas =
     from (table (header 0x04 3 0 0) (bits 0 0 1 0 0 0 0 0) (task 0 simple enabled 0 1 ∷ task 1 simple enabled 0 1 ∷ task 2 simple enabled 0 1 ∷ []))
@@ -51,8 +50,8 @@ clearTaskSetTas =
     (table (header 0x04 0 0 0) (bits 0 0 1 0 0 0 0 0) []) (listing (endedRecord 0 0xFF 1 ∷ endedRecord 1 0x40 1 ∷ endedRecord 2 0x40 1 ∷ []))
     ∷ [])
 
--- DECISIONS: "40h only by CLEAR TASK SET and QERR": under TAS 1 ABORT TASK, ABORT TASK SET, overlap, nexus loss and logical unit reset give FFh, and
--- nobody gets bit 4. "ABORT TASK ends that task if present; absent is still done."
+-- RULES 4.4: under TAS 1 ABORT TASK, ABORT TASK SET, overlap, nexus loss and logical unit reset give FFh, and nobody gets bit 4. RULES 7.6: ABORT TASK of an
+-- absent task.
 abbrev pub otherAborts : Case
 otherAborts =
     from

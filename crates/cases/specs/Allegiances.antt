@@ -1,4 +1,4 @@
--- Document 01, "Ends, ACA and aborts": ACA and states.
+-- RULES 2.8, 2.9, 6.3 to 6.8 and 7.2 to 7.8: ACA and states.
 use Prim.Native.Nat.{ℕ}
 use mathlib.Core.List.{List, [], _∷_}
 use Rattle.cases.specs.Makers.{simple, headOfQueue, ordered, aca, dormant, enabled, blocked}
@@ -6,8 +6,7 @@ use Rattle.cases.specs.Makers.{header, task, endedRecord, command, compl
 use Rattle.cases.specs.Shorthand.{answerLine, nothing, does, enters, keeps, refuses, from}
 use Rattle.cases.specs.Play.{lend, name, Case}
 
--- "When ACA begins, enabled tasks become blocked; dormant ones stay so". DECISIONS: "During an ACA a dormant task stays dormant though it becomes
--- eligible": 2.1 O, when 1.1 is aborted. CLEAR ACA enables both. 0.1 S ends out of its turn, which is that of 3.1 H.
+-- RULES 2.8. RULES 2.9: 2.1 O stays dormant when 1.1 is aborted. CLEAR ACA enables both. 0.1 S ends out of its turn, which is that of 3.1 H.
 abbrev pub acaBegins : Case
 acaBegins =
     from
@@ -37,7 +36,7 @@ acaTask1 =
 abbrev others : List (List ℕ)
 others = task 1 simple blocked 0 1 ∷ task 2 ordered dormant 0 1 ∷ task 3 simple dormant 0 1 ∷ []
 
--- "GOOD on an ACA task leaves the ACA."; "Other completions, an ACA task's included, leave it" (run); then another ACA command may enter
+-- RULES 6.5 and 1.16: GOOD leaves the ACA, and run; then another ACA command may enter
 abbrev pub acaTaskGood : Case
 acaTaskGood =
     from acaTask0
@@ -47,7 +46,7 @@ acaTaskGood =
     (table (header 0x00 4 1 3) quiet (task 1 simple blocked 0 1 ∷ task 2 ordered dormant 0 1 ∷ task 3 simple dormant 0 1 ∷ task 0 aca enabled 0 10 ∷ []))
     ∷ [])
 
--- "NACA 0: .. if the task had attribute ACA the old one is cleared"; DECISIONS: "With NACA 0 the ACA goes and the same event enables."
+-- RULES 6.3 and 6.4: with NACA 0 the ACA goes and the same event enables
 abbrev pub acaTaskFails : Case
 acaTaskFails =
     from acaTask0
@@ -56,12 +55,12 @@ acaTaskFails =
     (listing (endedRecord 0 0x02 9 ∷ []))
     ∷ [])
 
--- DECISIONS: "CHECK CONDITION on the ACA task with NACA 1 leaves an ACA for that nexus as before, and no state changes in between."
+-- RULES 6.4: with NACA 1 nothing of it changes
 abbrev pub acaTaskFailsAgain : Case
 acaTaskFailsAgain =
     from acaTask1 (does (completion 0 0x02 9) (answerLine 0 0 0 0 0 1) (table (header 0x00 3 1 3) quiet others) (listing (endedRecord 0 0x02 9 ∷ [])) ∷ [])
 
--- DECISIONS: "In an ACA only the ACA task can complete; any other completion of a present task is 6": blocked, dormant; absent 5
+-- RULES 6.8: 6 for blocked and dormant, 5 for absent
 abbrev pub onlyAcaTaskCompletes : Case
 onlyAcaTaskCompletes =
     from acaTask0
@@ -70,13 +69,12 @@ onlyAcaTaskCompletes =
     ∷ refuses (completion 0 0x00 1) 5
     ∷ [])
 
--- DECISIONS: "ABORT TASK, ABORT TASK SET, CLEAR TASK SET and overlap leave the ACA standing, also when they end the ACA task." (ABORT TASK SET is
--- `abortTaskSetInAca`, overlap `overlapFirst`.)
+-- RULES 7.8: ABORT TASK. ABORT TASK SET is `abortTaskSetInAca`, an overlapped command `overlapFirst`.
 abbrev pub abortTaskInAca : Case
 abortTaskInAca =
     from acaTask0 (does (management 0 1 9) (answerLine 0 0 0 0 0 1) (table (header 0x00 3 1 3) quiet others) (listing (endedRecord 0 0xFF 9 ∷ [])) ∷ [])
 
--- "CLEAR TASK SET ends all; ACA stays.", from the faulted nexus and from another
+-- RULES 7.5: from the faulted nexus and from another
 abbrev pub clearTaskSetInAca : Case
 clearTaskSetInAca =
     from acaTask0
@@ -89,7 +87,7 @@ clearTaskSetInAca =
     (listing (endedRecord 1 0xFF 1 ∷ endedRecord 2 0xFF 1 ∷ endedRecord 3 0xFF 1 ∷ endedRecord 0 0xFF 9 ∷ []))
     ∷ [])
 
--- "CLEAR ACA: without ACA done, no change". DECISIONS: "from any nexus, with a report of zeros"
+-- RULES 7.2: from any nexus, with a report of zeros
 abbrev pub clearNoAca : Case
 clearNoAca =
     from (table (header 0x00 1 0 2) quiet (task 0 simple enabled 0 1 ∷ []))
@@ -97,8 +95,7 @@ clearNoAca =
     ∷ keeps (management 5 4 0) (answerLine 0 0 0 0 0 0)
     ∷ [])
 
--- "from the faulted nexus the ACA task ends and ACA goes; from another, 8". DECISIONS: "ends with FFh and is in the report; other tasks of that
--- nexus stay": 0.1 S
+-- RULES 7.3 and 7.4: the ACA task is in the report with FFh; 0.1 S of that nexus stays
 abbrev pub clearAca : Case
 clearAca =
     from (table (header 0x00 3 1 3) quiet (task 0 simple blocked 0 1 ∷ task 2 ordered dormant 0 1 ∷ task 0 aca enabled 0 9 ∷ []))
@@ -107,8 +104,7 @@ clearAca =
     (table (header 0x00 2 0 3) quiet (task 0 simple enabled 0 1 ∷ task 2 ordered dormant 0 1 ∷ [])) (listing (endedRecord 0 0xFF 9 ∷ []))
     ∷ [])
 
--- DECISIONS: "QERR at the ACA task's CHECK CONDITION ends blocked and dormant tasks of others too. .. on a lent well-formed table it shows":
--- policy 01h, ACA byte 1, 1.1 S blocked, 0.1 attribute ACA enabled with NACA 0
+-- RULES 4.6, on a lent table: policy 01h, ACA byte 1, 1.1 S blocked, 0.1 attribute ACA enabled with NACA 0
 abbrev pub qerrEndsBlocked : Case
 qerrEndsBlocked =
     from (table (header 0x01 2 1 0) quiet (task 1 simple blocked 0 1 ∷ task 0 aca enabled 0 1 ∷ []))

@@ -1,4 +1,4 @@
--- Document 01, "Answer numbers": the lowest answer, bad tables and bad events.
+-- RULES 17 to 20: the lowest answer, bad tables and bad events.
 use Prim.Native.Nat.{ℕ, _+_, _-_}
 use mathlib.Core.List.{List, [], _∷_}
 use Rattle.cases.specs.Makers.{taskWidth, nexusPlace, tableLength, reportLength, zeros, junk, changed, shorter, longer}
@@ -7,7 +7,7 @@ use Rattle.cases.specs.Makers.{header, task, unused, event, command, com
 use Rattle.cases.specs.Shorthand.{answerLine, nothing, noTable, keeps, refuses, from}
 use Rattle.cases.specs.Play.{unchanged, now, Move, lend, start, name, Case}
 
--- "The lowest of 1 to 4 that applies is given": the table, the report and the event are bad, and the nexus is 8
+-- RULES 19.3: the table, the report and the event are bad, and the nexus is 8
 abbrev pub lowestIs1 : Case
 lowestIs1 =
     record {
@@ -25,7 +25,7 @@ lowestIs2 =
       moves = refuses (command 8 simple 4 1) 2 ∷ [];
     }
 
--- "report not 512 bytes": one too many
+-- RULES 18.1, answer 2: one byte too many
 abbrev pub longReport : Case
 longReport =
     record {
@@ -38,7 +38,7 @@ longReport =
 abbrev pub lowestIs3 : Case
 lowestIs3 = from (clear 0x00) (refuses (command 8 simple 4 1) 3 ∷ [])
 
--- "nexus above 7", whatever the event: it comes before "no such task" (5), "function rejected" (8) and the checks of a command
+-- RULES 9.3: answer 4, whatever the event, before 5, 8 and the checks of a command
 abbrev pub lowestIs4 : Case
 lowestIs4 =
     from (clear 0x00)
@@ -49,8 +49,7 @@ lowestIs4 =
     ∷ refuses (command 0xFF 3 0 1) 4
     ∷ [])
 
--- "Unknown function: 8"; DECISIONS, "Bytes and answers": "the tag is free for ABORT TASK and for unknown ones, function 0 is unknown". The
--- report is zeros, the table the same.
+-- RULES 7.10; RULES 16.3: function 0 is unknown, and the tag of an unknown one is free. The report is zeros, the table the same.
 abbrev pub rejected : Case
 rejected =
     from (table (header 0x00 1 0 0) quiet (task 2 simple enabled 0 1 ∷ []))
@@ -59,7 +58,7 @@ rejected =
     ∷ keeps (management 2 0xFF 0) (answerLine 8 0 0 0 0 0)
     ∷ [])
 
--- "Starting a table looks at length (1), then policy (9)": "10b is bad", "the rest 0"
+-- RULES 19.5 and 14.4: QERR 10b, bits 3 to 7
 abbrev pub starting : Case
 starting =
     from (junk tableLength)
@@ -80,7 +79,7 @@ starting =
     ∷ start 0x00 1 unchanged
     ∷ [])
 
--- "naming looks at the table (1)"; "0 with nothing"; "under nothing and under 1 nexus and tag are 0"
+-- RULES 19.4 and 20.2: nobody is named, a bad table
 abbrev pub namingNobody : Case
 namingNobody =
     from (junk tableLength)
@@ -95,7 +94,7 @@ abbrev eachBad : List (List ℕ) → List Move
 eachBad [] = []
 eachBad (t ∷ ts) = lend t ∷ refuses (command 0 simple 0 1) 1 ∷ name noTable ∷ eachBad ts
 
--- "bad table (not 584 bytes or not well formed)": the length; the header; of the nexus records a pending bit that is none, the numbers of nexus 0 and
+-- RULES 17.3: the length; the header; of the nexus records a pending bit that is none, the numbers of nexus 0 and
 -- 1 exchanged, and a last byte that is not 0
 abbrev pub badHeads : Case
 badHeads =
@@ -118,8 +117,8 @@ badHeads =
     ∷ changed (nexusPlace 0 + 7) 1 (clear 0x00)
     ∷ []))
 
--- the task records: mark, nexus, attribute, state, control; attribute and state in an ACA too; an unused one that is counted, a used one that is
--- not, one after a gap; two tasks that share nexus and tag
+-- RULES 17.1 and 17.3: the task records: mark, nexus, attribute, state, control; attribute and state in an ACA too; an unused one that is counted, a used
+-- one that is not, one after a gap; two tasks that share nexus and tag
 abbrev pub badTasks : Case
 badTasks =
     from (junk tableLength)
@@ -141,7 +140,7 @@ badTasks =
     ∷ table (header 0x00 2 0 0) quiet (task 0 simple enabled 0 1 ∷ task 0 simple enabled 1 1 ∷ [])
     ∷ []))
 
--- "without ACA: no task is blocked or has attribute ACA, and a task is enabled exactly if it is eligible, else dormant"
+-- RULES 10.1
 abbrev pub badWithoutAca : Case
 badWithoutAca =
     from (junk tableLength)
@@ -155,8 +154,7 @@ badWithoutAca =
     ∷ table (header 0x00 2 0 0) quiet (task 0 simple enabled 0 1 ∷ task 1 headOfQueue dormant 0 1 ∷ [])
     ∷ []))
 
--- "with ACA: at most one task has attribute ACA; it is the youngest, enabled, of the faulted nexus. Every other task is dormant or blocked; a
--- blocked one is eligible; a HEAD OF QUEUE one is blocked."
+-- RULES 10.2 and 10.3
 abbrev pub badInAca : Case
 badInAca =
     from (junk tableLength)
@@ -172,8 +170,7 @@ badInAca =
     ∷ table (header 0x00 1 1 0) quiet (task 1 headOfQueue dormant 0 1 ∷ [])
     ∷ []))
 
--- DECISIONS, "Bytes and answers": "Well formed but unreachable tables are accepted": run 4 over an empty table, an ACA of nexus 7 over an
--- eligible dormant task, every pending bit at once
+-- RULES 10.6: run 4 over an empty table, an ACA of nexus 7 over an eligible dormant task, every pending bit at once
 abbrev pub unreachable : Case
 unreachable =
     from (table (header 0x07 0 0 4) (bits 0x1F 0x1F 0x1F 0x1F 0x1F 0x1F 0x1F 0x1F) [])
@@ -188,8 +185,8 @@ abbrev eachBadEvent : List (List ℕ) → List Move
 eachBadEvent [] = []
 eachBadEvent (e ∷ es) = refuses e 3 ∷ eachBadEvent es
 
--- "Anything else is a bad event": the mark and the kind; a COMMAND's second; a COMPLETION's first and second; a MANAGEMENT's second, and the tag
--- of functions 2 to 5; a CONDITION's first, second and tag, and the nexus of power on and hard reset (DECISIONS: "also above 7")
+-- RULES 16.1 to 16.6: the mark and the kind; a COMMAND's second; a COMPLETION's first and second; a MANAGEMENT's second, and the tag of functions
+-- 2 to 5; a CONDITION's first, second and tag, and the nexus of power on and hard reset, also above 7
 abbrev pub badEvents : Case
 badEvents =
     from (table (header 0x00 1 0 0) quiet (task 0 simple enabled 0 1 ∷ []))
@@ -218,7 +215,7 @@ badEvents =
     ∷ condition 8 1
     ∷ []))
 
--- ".. as is a length other than 8"
+-- RULES 16.6: the length
 abbrev pub eventLengths : Case
 eventLengths =
     from (clear 0x00)

@@ -4,7 +4,7 @@ use Rattle.cases.specs.Makers.{tableLength, junk, simple, enabled, heade
 use Rattle.cases.specs.Shorthand.{answerLine, namesTask, does, enters, from}
 use Rattle.cases.specs.Play.{now, start, name, Case}
 
--- "Pending bits are clear": a fresh table after one command from each nexus, for "the highest rank is reported, .., and that bit is cleared"
+-- RULES 3.4 and 5.8: how pending bits become clear: a fresh table after one command from each nexus
 abbrev pub cleared : Case
 cleared =
     from (junk tableLength)
@@ -19,7 +19,7 @@ cleared =
     ∷ does (command 7 simple 0 1) (answerLine 7 0x02 0x06 0x29 0x00 0) (clear 0x00) (listing [])
     ∷ [])
 
--- "Tags are big-endian.": 1234h and 3412h are two tags
+-- RULES 14.1: 1234h and 3412h are two tags
 abbrev pub tagOrder : Case
 tagOrder =
     from (clear 0x00)

@@ -1,12 +1,11 @@
--- Document 01, "Entry of a command, checks in order".
+-- RULES 5: entry of a command.
 use mathlib.Core.List.{[], _∷_}
 use Rattle.cases.specs.Makers.{simple, headOfQueue, ordered, aca, dormant, enabled, blocked, header, task, endedRecord, command, bits, quiet, table, listing}
 use Rattle.cases.specs.Shorthand.{answerLine, does, enters, keeps, from}
 use Rattle.cases.specs.Play.{lend, Case}
 
--- DECISIONS: "Check 1 (overlapped) comes before everything, exempt or not, from any nexus, and during an ACA. .. the ACA task included; the ACA
--- stays; no pending bit is taken." In an ACA of nexus 0: a command of nexus 1 with a bad attribute and a bit pending, one of the faulted nexus
--- with the ACA task's tag, an exempt one of nexus 2.
+-- RULES 5.3: in an ACA of nexus 0 a command of nexus 1 with a bad attribute and a bit pending, one of the faulted nexus with the ACA task's tag, an exempt one
+-- of nexus 2
 abbrev pub overlapFirst : Case
 overlapFirst =
     from
@@ -21,7 +20,7 @@ overlapFirst =
     (table (header 0x00 0 1 0) (bits 0 0x10 0 0 0 0 0 0) []) (listing (endedRecord 2 0xFF 1 ∷ []))
     ∷ [])
 
--- DECISIONS: "States are brought up to date under answer 7 as well.": 1.1 S was dormant behind 0.1 O. "The refused command has no ended record".
+-- RULES 2.7: 1.1 S was dormant behind 0.1 O. RULES 4.9: the refused command has no ended record.
 abbrev pub overlapSettles : Case
 overlapSettles =
     from (table (header 0x00 3 0 0) quiet (task 0 ordered enabled 0 1 ∷ task 1 simple dormant 0 1 ∷ task 0 simple dormant 0 2 ∷ []))
@@ -29,7 +28,7 @@ overlapSettles =
     (table (header 0x00 1 0 0) quiet (task 1 simple enabled 0 1 ∷ [])) (listing (endedRecord 0 0xFF 1 ∷ endedRecord 0 0xFF 2 ∷ []))
     ∷ [])
 
--- "A command ended at entry neither sets up an ACA nor applies QERR.": QERR 01b and NACA 1; 1.1 stays. The attribute is "any byte": 03h, FFh.
+-- RULES 5.1: QERR 01b and NACA 1; 1.1 stays. RULES 16.1: the attribute is any byte, 03h, FFh.
 abbrev pub entrySetsUpNoAca : Case
 entrySetsUpNoAca =
     from (table (header 0x01 2 0 0) quiet (task 0 simple enabled 0 1 ∷ task 1 simple enabled 0 1 ∷ []))
@@ -39,8 +38,7 @@ entrySetsUpNoAca =
     (table (header 0x01 1 0 0) quiet (task 1 simple enabled 0 1 ∷ [])) (listing (endedRecord 0 0xFF 1 ∷ []))
     ∷ [])
 
--- DECISIONS: "Exempt skips check 3 and nothing else, and is not stored in the task." The bit stays; of the second byte NACA alone is in the
--- control byte; check 4 and, in an ACA, check 2 hold.
+-- RULES 5.7: the bit stays; check 4 and, in an ACA, check 2 hold. RULES 1.8: of the second byte NACA alone is in the control byte.
 abbrev pub exempt : Case
 exempt =
     from (table (header 0x00 0 0 0) (bits 0 0 0 1 0 0 0 0) [])
@@ -53,8 +51,7 @@ exempt =
     ∷ keeps (command 0 simple 2 1) (answerLine 7 0x30 0 0 0 0)
     ∷ [])
 
--- DECISIONS: "Attribute ACA from a nexus that is not the faulted one follows the NACA rule (08h or 30h). .. An attribute byte that is none of the
--- four gets 30h or 08h from check 2 in an ACA"
+-- RULES 5.5 and 5.6
 abbrev pub attributesInAca : Case
 attributesInAca =
     from (table (header 0x00 0 1 0) quiet [])
@@ -66,7 +63,7 @@ attributesInAca =
     ∷ keeps (command 0 headOfQueue 0 1) (answerLine 7 0x30 0 0 0 0)
     ∷ [])
 
--- "Pending bits, highest rank first", and DECISIONS: "one bit a command, the lowest bit number first, the others stay"
+-- RULES 3.1, 3.4 and 5.9: one bit a command, highest rank first, and the others stay
 abbrev pub rankOrder : Case
 rankOrder =
     from (table (header 0x00 0 0 0) (bits 0 0 0 0 0x1F 0x1F 0 0) [])
@@ -78,8 +75,7 @@ rankOrder =
     ∷ enters (command 4 simple 0 1) (table (header 0x00 1 0 0) (bits 0 0 0 0 0 0x1F 0 0) (task 4 simple enabled 0 1 ∷ []))
     ∷ [])
 
--- DECISIONS: "Check 3 holds for an ACA command of the faulted nexus too"; the ACA stays. "A command stopped at check 1 or 2 takes no bit": that of
--- nexus 1.
+-- RULES 5.10: the ACA stays. RULES 5.9: a command that check 2 stops takes no bit, that of nexus 1.
 abbrev pub bitsInAca : Case
 bitsInAca =
     from (table (header 0x00 0 1 0) (bits 0x14 0x08 0 0 0 0 0 0) [])
@@ -90,7 +86,7 @@ bitsInAca =
     ∷ enters (command 0 aca 0 1) (table (header 0x00 1 1 0) (bits 0 0x08 0 0 0 0 0 0) (task 0 aca enabled 0 1 ∷ []))
     ∷ [])
 
--- DECISIONS: "one stopped at 4 or 5 would have met 3 first": a bad attribute with a bit pending
+-- RULES 5.9: a bad attribute with a bit pending
 abbrev pub bitsBeforeAttribute : Case
 bitsBeforeAttribute =
     from (table (header 0x00 0 0 0) (bits 0 0 2 0 0 0 0 0) [])

@@ -1,12 +1,11 @@
--- Document 01, "Plausible errors": each error as a case that tells it from the rule.
+-- RULES 26.13: each of the five plausible errors as a case that tells it from the rule.
 use mathlib.Core.List.{[], _∷_}
 use Rattle.cases.specs.Makers.{simple, headOfQueue, ordered, aca, dormant, enabled, blocked}
 use Rattle.cases.specs.Makers.{header, task, endedRecord, command, completion, management, bits, quiet, table, clear, listing}
 use Rattle.cases.specs.Shorthand.{answerLine, namesTask, nothing, does, enters, keeps, refuses, from}
 use Rattle.cases.specs.Play.{name, Case}
 
--- "Enabling a dormant task because its older one ended in the event that set up the ACA.": 1.1 S behind 0.1 O stays dormant, has no turn,
--- and can't complete
+-- RULES 2.8: 1.1 S behind 0.1 O stays dormant, has no turn, and can't complete
 abbrev pub dormantAsAcaBegins : Case
 dormantAsAcaBegins =
     from (clear 0x00)
@@ -18,8 +17,7 @@ dormantAsAcaBegins =
     ∷ refuses (completion 1 0x00 1) 6
     ∷ [])
 
--- "Letting a younger HEAD OF QUEUE task push an enabled SIMPLE one back to dormant.": 0.1 S stays enabled and completes, out of its turn, so
--- that run stays 2
+-- RULES 2.5: 0.1 S stays enabled and completes, out of its turn, so that run stays 2
 abbrev pub youngerHead : Case
 youngerHead =
     from (table (header 0x00 1 0 2) quiet (task 0 simple enabled 0 1 ∷ []))
@@ -29,8 +27,7 @@ youngerHead =
     (table (header 0x00 1 0 2) quiet (task 1 headOfQueue enabled 0 1 ∷ [])) (listing (endedRecord 0 0x00 1 ∷ []))
     ∷ [])
 
--- "Clearing ACA on ABORT TASK SET.": from the faulted nexus it ends the ACA task too; the ACA stays, so that 1.1 stays blocked, nobody has
--- the turn, and nexus 1 is BUSY
+-- RULES 7.7: from the faulted nexus it ends the ACA task too; the ACA stays, so that 1.1 stays blocked, nobody has the turn, and nexus 1 is BUSY
 abbrev pub abortTaskSetInAca : Case
 abortTaskSetInAca =
     from (table (header 0x00 3 1 0) quiet (task 0 simple blocked 0 1 ∷ task 1 simple blocked 0 1 ∷ task 0 aca enabled 0 9 ∷ []))
@@ -40,8 +37,7 @@ abortTaskSetInAca =
     ∷ keeps (command 1 simple 0 2) (answerLine 7 0x08 0 0 0 0)
     ∷ [])
 
--- "Telling the causing nexus 2Fh/00h about its own aborts.": QERR 01b aborts 0.2 and 1.1; the next command of nexus 0 enters, that of nexus 1
--- is told
+-- RULES 4.7: QERR 01b aborts 0.2 and 1.1; the next command of nexus 0 enters, that of nexus 1 is told
 abbrev pub causingNexus : Case
 causingNexus =
     from (table (header 0x01 3 0 0) quiet (task 0 simple enabled 0 1 ∷ task 0 simple enabled 0 2 ∷ task 1 simple enabled 0 1 ∷ []))
@@ -51,7 +47,7 @@ causingNexus =
     ∷ does (command 1 simple 0 3) (answerLine 7 0x02 0x06 0x2F 0x00 0) (table (header 0x01 1 0 0) quiet (task 0 simple enabled 0 3 ∷ [])) (listing [])
     ∷ [])
 
--- "Serving the youngest HEAD OF QUEUE task first, which starves older ones.": of 0.1, 1.1 and then 2.1 H the oldest has the turn each time
+-- RULES 2.11: of 0.1, 1.1 and then 2.1 H the oldest has the turn each time
 abbrev pub oldestHead : Case
 oldestHead =
     from (clear 0x00)

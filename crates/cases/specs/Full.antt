@@ -1,4 +1,4 @@
--- 64 tasks: document 01, case J and check 5.
+-- RULES 5.12, 5.13 and 26.11: 64 tasks.
 use Prim.Native.Nat.{ℕ, zero, suc}
 use mathlib.Core.List.{List, [], _∷_, _++_}
 use Rattle.cases.specs.Makers.{simple, aca, enabled, blocked, header, task, endedRecord, command, completion, bits, quiet, table, listing}
@@ -10,8 +10,7 @@ abbrev simples : ℕ → ℕ → ℕ → List (List ℕ)
 simples st g zero = []
 simples st g (suc n) = task 1 simple st 0 g ∷ simples st (suc g) n
 
--- "J: 63 tasks take one more; 64 give 28h; after one end the next enters." "Checks in order": at 64 tasks a bad attribute (check 4) and a pending
--- bit (check 3, nexus 2) come before 28h (check 5)
+-- RULES 26.11. RULES 5.15: at 64 tasks a bad attribute (check 4) and a pending bit (check 3, nexus 2) come before 28h (check 5).
 abbrev pub caseJ : Case
 caseJ =
     from (table (header 0x00 63 0 0) (bits 0 0 1 0 0 0 0 0) (simples enabled 1 63))
@@ -25,6 +24,6 @@ caseJ =
     ∷ enters (command 0 simple 0 2) (table (header 0x00 64 0 0) quiet (simples enabled 2 62 ++ task 0 simple enabled 0 1 ∷ task 0 simple enabled 0 2 ∷ []))
     ∷ [])
 
--- DECISIONS: "No place is kept for an ACA task: 64 tasks give 28h to it too. .. on a lent table it can."
+-- RULES 5.13
 abbrev pub fullInAca : Case
 fullInAca = from (table (header 0x00 64 1 0) quiet (simples blocked 1 64)) (keeps (command 0 aca 0 1) (answerLine 7 0x28 0 0 0 0) ∷ [])

@@ -1,25 +1,14 @@
--- The bytes that the cases list, made from the fields of document 01. Document 01, "Bytes": "Every record is 8 bytes and opens with a two-byte mark.
--- Tags are big-endian.", and of the bytes from 2 on:
---
---   "header   54 48   01; policy; task count 0 to 64; ACA: 0 or 1 + faulted nexus; run 0 to 4; 0
---    nexus    54 4E   nexus; pending bits; 0 0 0 0
---    task     54 54   nexus; attribute; state; control (bit 0 NACA); tag, 2 bytes
---    ended    54 45   nexus; status; 0 0; tag
---    event    54 56   kind; nexus; first; second; tag"
---
--- "Table: header, 8 nexus records in order 0 to 7, 64 task records; 584 bytes. Used task records come first, oldest first. Unused ones are 54 54 and six
--- zeros. Report: 512 bytes, the tasks ended by this event in their former age order, then zeros to the end."
---
--- The makers are the cases' own, written from that text, and take a wrong value as well as a right one. `Printed` holds them to bytes that document 01
--- prints. The Python of tests/cases reads this file, and has no width or place of its own.
+-- RULES 13 to 17: the bytes that the cases list, made from the fields of their records. The makers are the cases' own, written from those clauses, and take a
+-- wrong value as well as a right one. `Printed` holds them to bytes written out. The Python of tests/cases reads this file, and has no width or place of its
+-- own.
 --
 --   headerWidth, nexusWidth, taskWidth, endedWidth, eventWidth  := the bytes of a record of each kind
 --   nexusCount, taskCount      := the nexus records and the task records of a table
 --   nexusPlace n, taskPlace k  := where the record of nexus n stands in a table, and the task record k, the oldest being 0
 --   tableLength, reportLength  := the bytes of a table, and of a report
 --
---   simple, headOfQueue, ordered, aca  := "Attributes: 0 SIMPLE, 1 HEAD OF QUEUE, 2 ORDERED, 4 ACA."
---   dormant, enabled, blocked          := "States: 1 dormant, 2 enabled, 3 blocked."
+--   simple, headOfQueue, ordered, aca  := the attributes, RULES 14.2
+--   dormant, enabled, blocked          := the states, RULES 14.2
 --
 --   header p n a r         := a header: the policy p, n tasks, the ACA byte a, the run r
 --   nexus i p n            := the record of nexus i: the pending bits p, and n in byte 4
@@ -27,16 +16,15 @@
 --   unused                 := an unused task record
 --   endedRecord i s g      := an ended record: nexus i, the status s, the tag g
 --   event k i a b g        := an event of kind k: nexus i, first a, second b, the tag g
---   command i a b g        := "1 COMMAND: first is the attribute, any byte; second has bit 0 NACA and bit 1 exempt"
---   completion i s g       := "2 COMPLETION: first is 00h GOOD or 02h CHECK CONDITION; second 0."
---   management i f g       := "3 MANAGEMENT: first is 1 ABORT TASK, 2 ABORT TASK SET, 3 CLEAR TASK SET, 4 CLEAR ACA, 5 LOGICAL UNIT RESET, others unknown;
---                             second 0; tag 0 for functions 2 to 5."
---   condition i c          := "4 CONDITION: first is 1 power on, 2 hard reset, 3 nexus loss; second 0, tag 0"
+--   command i a b g        := a COMMAND, RULES 16.1: the attribute a, and b for NACA and exempt
+--   completion i s g       := a COMPLETION, RULES 16.2: the status s
+--   management i f g       := a MANAGEMENT, RULES 16.3: the function f
+--   condition i c          := a CONDITION, RULES 16.4: the condition c
 --
 --   bits a b .. h          := the pending bits of nexus 0 to 7
 --   quiet                  := no pending bit
 --   table h ps ts          := a table: the header h, the nexus records with the pending bits ps, the task records ts, and unused ones up to 64
---   clear p                := "Pending bits are clear": a table without tasks under the policy byte p
+--   clear p                := a table without tasks and pending bits under the policy byte p
 --   listing es             := a report: the ended records es, then zeros to the end
 --
 --   zeros n, junk n        := n zeros; n bytes that are neither zeros nor marks, so that what is left as it was can be told from what is written

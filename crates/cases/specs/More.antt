@@ -1,5 +1,4 @@
--- The cases that document 01 lacks, and K and J, each with the clause that it comes from; then all cases. "DECISIONS" in these files is
--- docs/DECISIONS.md, "How the paper is read".
+-- The cases that are not in RULES 26.2 to 26.10, J and K among them, each with the clause that it comes from; then all cases.
 use mathlib.Core.List.{List, [], _∷_, _++_}
 use Rattle.cases.specs.Play.{Case}
 use Rattle.cases.specs.Begin.{cleared, tagOrder}

@@ -1,5 +1,5 @@
--- Document 01's cases A to I, and after each event all six numbers of the answer and every byte of the table and the report.
--- "Write 0.1 for nexus 0, tag 1."; "Pending bits are clear and policy 00h unless said."
+-- RULES 26.1 to 26.10: cases A to I, and after each event all six numbers of the answer and every byte of the table and the report. 0.1 is nexus 0, tag 1;
+-- pending bits are clear and the policy is 00h unless said.
 use Prim.Native.Nat.{ℕ}
 use mathlib.Core.List.{List, [], _∷_, _++_}
 use Rattle.cases.specs.Makers.{simple, headOfQueue, ordered, aca, dormant, enabled}
@@ -7,9 +7,7 @@ use Rattle.cases.specs.Makers.{tableLength, junk, header, task, endedRec
 use Rattle.cases.specs.Shorthand.{answerLine, namesTask, does, enters, keeps, refuses, from}
 use Rattle.cases.specs.Play.{now, Move, lend, start, name, Case}
 
--- "A*: fresh, events 54 56 01 02 00 00 00 07 twice, then 54 56 02 02 00 00 00 07. First: 7, 02h, 6h/29h/00h; nexus record 54 4E 02 00 00 00
--- 00 00. Second: 0; header 54 48 01 00 01 00 00 00, task 54 54 02 00 02 00 00 07. Third: 0; report 54 45 02 00 00 00 00 07, then 504 zeros;
--- task count 0, ended count 1."
+-- RULES 26.2
 abbrev pub caseA : Case
 caseA =
     from (junk tableLength)
@@ -19,7 +17,7 @@ caseA =
     ∷ does (completion 2 0x00 7) (answerLine 0 0 0 0 0 1) (table (header 0x00 0 0 0) (bits 1 1 0 1 1 1 1 1) []) (listing (endedRecord 2 0x00 7 ∷ []))
     ∷ [])
 
--- "B*: 0.1 S, 1.1 O, 0.2 S: enabled, dormant, dormant. 0.1 ends: enabled, dormant. 1.1 ends: 0.2 enabled."
+-- RULES 26.3
 abbrev pub caseB : Case
 caseB =
     from (clear 0x00)
@@ -36,7 +34,7 @@ caseB =
 abbrev tasksOfC : List (List ℕ)
 tasksOfC = task 0 simple enabled 0 1 ∷ task 1 headOfQueue enabled 0 1 ∷ task 0 simple dormant 0 2 ∷ []
 
--- "C*: 0.1 S, 1.1 H, 0.2 S: enabled, enabled, dormant. Run 0 to 3 names 1.1; run 4 names 0.1."
+-- RULES 26.4
 abbrev pub caseC : Case
 caseC =
     from (clear 0x00)
@@ -63,7 +61,7 @@ intoAca =
     (listing (endedRecord 0 0x02 1 ∷ []))
     ∷ []
 
--- "D*: 0.1 S (NACA 1), 1.1 O; 0.1 ends 02h: ACA byte 1, 1.1 dormant. CLEAR ACA from 1: 8. From 0: 1.1 enabled."
+-- RULES 26.5
 abbrev pub caseD : Case
 caseD =
     from (clear 0x00)
@@ -72,8 +70,7 @@ caseD =
     ∷ does (management 0 4 0) (answerLine 0 0 0 0 0 0) (table (header 0x00 1 0 0) quiet (task 1 ordered enabled 0 1 ∷ [])) (listing [])
     ∷ []))
 
--- "E*: in D's ACA, before any CLEAR ACA: 0.2 S gives 30h; 1.2 gives 08h, with NACA 1 30h; 0.3 attribute 4 enters enabled; 0.4 attribute 4
--- gives 30h."
+-- RULES 26.6: in D's ACA, before any CLEAR ACA
 abbrev pub caseE : Case
 caseE =
     from (clear 0x00)
@@ -85,7 +82,7 @@ caseE =
     ∷ keeps (command 0 aca 0 4) (answerLine 7 0x30 0 0 0 0)
     ∷ []))
 
--- "F*: policy 01h, 0.1 S, 1.1 S; 0.1 ends 02h, NACA 0: report 0.1 02h, 1.1 FFh; nexus 1 bit 4. Policy 05h: 1.1 40h, no bit."
+-- RULES 26.7
 abbrev pub caseF : Case
 caseF =
     from (clear 0x01)
@@ -99,7 +96,7 @@ caseF =
     ∷ does (completion 0 0x02 1) (answerLine 0 0 0 0 0 2) (table (header 0x05 0 0 0) quiet []) (listing (endedRecord 0 0x02 1 ∷ endedRecord 1 0x40 1 ∷ []))
     ∷ [])
 
--- "G*: 0.1, 1.1, 0.2 S; ABORT TASK SET from 0: 0.1 and 0.2 FFh; 1.1 is first."
+-- RULES 26.8
 abbrev pub caseG : Case
 caseG =
     from (clear 0x00)
@@ -111,7 +108,7 @@ caseG =
     (table (header 0x00 1 0 0) quiet (task 1 simple enabled 0 1 ∷ [])) (listing (endedRecord 0 0xFF 1 ∷ endedRecord 0 0xFF 2 ∷ []))
     ∷ [])
 
--- "H*: 0.1, 0.2 S; COMMAND 0.1: 7, Bh/4Eh/00h, both FFh, task count 0."
+-- RULES 26.9
 abbrev pub caseH : Case
 caseH =
     from (clear 0x00)
@@ -121,7 +118,7 @@ caseH =
     (listing (endedRecord 0 0xFF 1 ∷ endedRecord 0 0xFF 2 ∷ []))
     ∷ [])
 
--- "I*: completing a dormant task 6; an absent one 5; nexus 8 gives 4, 7 is taken; attribute 3, or 4 without ACA, 5h/49h/00h."
+-- RULES 26.10
 abbrev pub caseI : Case
 caseI =
     from (clear 0x00)

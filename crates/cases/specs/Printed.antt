@@ -1,6 +1,6 @@
--- What document 01 prints, byte by byte, beside what `Makers` makes of it: a wrong maker, width or place is found here, and not taken for a rule.
+-- Bytes written out, beside what `Makers` makes of them: a wrong maker, width or place is found here, and not taken for a rule.
 --
---   Print            := bytes or numbers that are made, and those on paper
+--   Print            := bytes or numbers that are made, and those written out
 --   agrees p         := the two are equal
 --   printed          := each maker and width, and each place that a case names
 use Prim.Native.Nat.{ℕ}
@@ -30,10 +30,8 @@ part i n bs = take n (drop i bs)
 abbrev tableOfA : List ℕ
 tableOfA = table (header 0x00 1 0 0) (bits 1 1 0 1 1 1 1 1) (task 2 simple enabled 0 7 ∷ [])
 
--- Case A: "events 54 56 01 02 00 00 00 07 twice, then 54 56 02 02 00 00 00 07. First: .. nexus record 54 4E 02 00 00 00 00 00. Second: .. header
--- 54 48 01 00 01 00 00 00, task 54 54 02 00 02 00 00 07. Third: .. report 54 45 02 00 00 00 00 07, then 504 zeros"; "Unused ones are 54 54 and six
--- zeros." Then the records' fields in their order, each with a number of its own; "Tags are big-endian." Then the attributes, the states and the
--- lengths: "584 bytes", "512 bytes", "a length other than 8".
+-- RULES 26.2, case A: its events, its records, its report; RULES 15.4: an unused record. Then RULES 15 and 16: the records' fields in their order, each with a
+-- number of its own, and RULES 14.1: tags. Then RULES 14.2: the attributes, the states; and RULES 13: the lengths.
 abbrev pub printed : List Print
 printed =
     prints (command 2 simple 0 7) (0x54 ∷ 0x56 ∷ 0x01 ∷ 0x02 ∷ 0x00 ∷ 0x00 ∷ 0x00 ∷ 0x07 ∷ [])

@@ -1,4 +1,4 @@
--- Document 01, "Ends, ACA and aborts": resets and pending bits.
+-- RULES 7.9 and 8.1 to 8.3: resets, the loss of a nexus, and pending bits.
 use Prim.Native.Nat.{ℕ}
 use mathlib.Core.List.{List, [], _∷_}
 use Rattle.cases.specs.Makers.{simple, aca, enabled, blocked, header, task, endedRecord, management, condition, bits, table, listing}
@@ -10,8 +10,7 @@ abbrev beforeReset : List ℕ
 beforeReset =
     table (header 0x07 2 4 4) (bits 0x1F 0x1E 0x1C 0x18 0x10 0x00 0x01 0x02) (task 1 simple blocked 0 1 ∷ task 3 aca enabled 0 9 ∷ [])
 
--- "Logical unit reset ends all tasks with FFh, clears ACA and run; every nexus gets bit 2 and loses bits 3 and 4."; the sender, 6, included;
--- "Policy survives all."
+-- RULES 3.7 and 7.9: the sender, 6, included. RULES 1.13: the policy stays.
 abbrev pub unitReset : Case
 unitReset =
     from beforeReset
@@ -19,7 +18,7 @@ unitReset =
     (table (header 0x07 0 0 0) (bits 0x07 0x06 0x04 0x04 0x04 0x04 0x05 0x06) []) (listing (endedRecord 1 0xFF 1 ∷ endedRecord 3 0xFF 9 ∷ []))
     ∷ [])
 
--- "Hard reset likewise: bit 1, losing 2 to 4."
+-- RULES 3.6 and 8.3
 abbrev pub hardReset : Case
 hardReset =
     from beforeReset
@@ -27,7 +26,7 @@ hardReset =
     (table (header 0x07 0 0 0) (bits 0x03 0x02 0x02 0x02 0x02 0x02 0x03 0x02) []) (listing (endedRecord 1 0xFF 1 ∷ endedRecord 3 0xFF 9 ∷ []))
     ∷ [])
 
--- "Power on likewise: bit 0 and no other." "A fresh table equals the state after power on."
+-- RULES 3.5, 4.2 and 8.2
 abbrev pub powerOn : Case
 powerOn =
     from beforeReset
@@ -36,8 +35,7 @@ powerOn =
     ∷ start 0x07 0 unchanged
     ∷ [])
 
--- "Nexus loss ends that nexus's tasks with FFh, clears ACA if it was faulted, gives it bit 3 and removes its bit 4."; run stays; the same event
--- enables 1.1
+-- RULES 3.8 and 8.1: run stays; the same event enables 1.1
 abbrev pub faultedNexusLoss : Case
 faultedNexusLoss =
     from beforeReset
@@ -45,7 +43,7 @@ faultedNexusLoss =
     (table (header 0x07 1 0 4) (bits 0x1F 0x1E 0x1C 0x08 0x10 0x00 0x01 0x02) (task 1 simple enabled 0 1 ∷ [])) (listing (endedRecord 3 0xFF 9 ∷ []))
     ∷ [])
 
--- DECISIONS: "an ACA of another nexus stays": nexus 1 with its task, nexus 2 and 5 without one
+-- RULES 8.1: an ACA of another nexus stays. Nexus 1 with its task, nexus 2 and 5 without one.
 abbrev pub otherNexusLoss : Case
 otherNexusLoss =
     from beforeReset

@@ -1,7 +1,7 @@
 -- Answers and moves in short, as the cases list them.
 --
 --   answerLine a s k c q n := the numbers of an answer as the player writes them: answer, status, key, code, qualifier, ended count
---   namesTask n g, nothing, noTable := what naming says: 0 and the task n.g; 0 and "nothing"; 1 with zeros
+--   namesTask n g, nothing, noTable := what naming says: 0 and the task n.g; 0 and nothing; 1 with zeros
 --   does e a t r           := the event e gets a; the table is then t, and the report r
 --   enters e t             := the command e gets 0 and all zeros; the table is then t, and the report all zeros
 --   keeps e a              := the event e gets a; the table stays the same, and the report is all zeros

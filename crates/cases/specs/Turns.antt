@@ -1,11 +1,11 @@
--- Document 01, "Turn rule (house)".
+-- RULES 1.15, 1.16 and 2.10 to 2.12: turns and run.
 use mathlib.Core.List.{[], _∷_}
 use Rattle.cases.specs.Makers.{simple, headOfQueue, ordered, aca, dormant, enabled, blocked}
 use Rattle.cases.specs.Makers.{header, task, endedRecord, command, completion, quiet, table, listing}
 use Rattle.cases.specs.Shorthand.{answerLine, namesTask, nothing, does, enters, from}
 use Rattle.cases.specs.Play.{lend, name, Case}
 
--- "K: 0.1 S at run 0, a new H before each turn: 0.1 ends at turn 5." Run is 1, 2, 3, 4 on the way and 0 after the fifth turn.
+-- RULES 26.12: run is 1, 2, 3, 4 on the way and 0 after the fifth turn
 abbrev pub caseK : Case
 caseK =
     from (table (header 0x00 1 0 0) quiet (task 0 simple enabled 0 1 ∷ []))
@@ -32,8 +32,7 @@ caseK =
     ∷ name (namesTask 1 5)
     ∷ [])
 
--- "or no SIMPLE or ORDERED task is enabled": at run 4 the HEAD OF QUEUE task has the turn, for 0.1 S behind it is dormant; "the smaller of
--- run + 1 and 4"
+-- RULES 2.11: at run 4 the HEAD OF QUEUE task has the turn, for 0.1 S behind it is dormant. RULES 1.15: run stays 4.
 abbrev pub runStaysFour : Case
 runStaysFour =
     from (table (header 0x00 2 0 4) quiet (task 1 headOfQueue enabled 0 1 ∷ task 0 simple dormant 0 1 ∷ []))
@@ -42,7 +41,7 @@ runStaysFour =
     (listing (endedRecord 1 0x00 1 ∷ []))
     ∷ [])
 
--- "to 0 if SIMPLE or ORDERED": an ORDERED task's turn
+-- RULES 1.15: an ORDERED task's turn
 abbrev pub orderedTurn : Case
 orderedTurn =
     from (table (header 0x00 1 0 3) quiet (task 0 ordered enabled 0 1 ∷ []))
@@ -50,7 +49,7 @@ orderedTurn =
     ∷ does (completion 0 0x00 1) (answerLine 0 0 0 0 0 1) (table (header 0x00 0 0 0) quiet []) (listing (endedRecord 0 0x00 1 ∷ []))
     ∷ [])
 
--- "Other completions .. leave it.": 1.1 H is enabled and not named
+-- RULES 1.16: 1.1 H is enabled and not named
 abbrev pub headOutOfTurn : Case
 headOutOfTurn =
     from (table (header 0x00 2 0 1) quiet (task 0 headOfQueue enabled 0 1 ∷ task 1 headOfQueue enabled 0 1 ∷ []))
@@ -59,7 +58,7 @@ headOutOfTurn =
     (table (header 0x00 1 0 1) quiet (task 0 headOfQueue enabled 0 1 ∷ [])) (listing (endedRecord 1 0x00 1 ∷ []))
     ∷ [])
 
--- DECISIONS, "Turn and run": "the CHECK CONDITION that sets up an ACA is a turn and sets run"
+-- RULES 6.7: the CHECK CONDITION that sets up an ACA
 abbrev pub failedTurn : Case
 failedTurn =
     from (table (header 0x00 2 0 0) quiet (task 1 headOfQueue enabled 1 1 ∷ task 0 simple dormant 0 1 ∷ []))
@@ -68,7 +67,7 @@ failedTurn =
     (listing (endedRecord 1 0x02 1 ∷ []))
     ∷ [])
 
--- "With ACA: the ACA task, else nothing.": not the blocked HEAD OF QUEUE task
+-- RULES 2.10: not the blocked HEAD OF QUEUE task
 abbrev pub turnInAca : Case
 turnInAca =
     from (table (header 0x00 2 1 0) quiet (task 1 headOfQueue blocked 0 1 ∷ task 0 aca enabled 0 9 ∷ []))

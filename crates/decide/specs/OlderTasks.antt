@@ -1,3 +1,4 @@
+-- Believed by nobody: code's own way of walking, proved equal to what the rules say (docs/TRUST.md).
 -- The rules over a list of tasks, in the form in which code walks it: of the older tasks it carries two bits.
 --
 --   noOlder             := nothing is older

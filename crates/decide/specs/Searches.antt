@@ -1,3 +1,4 @@
+-- Believed by nobody: code's own way of walking, proved equal to what the rules say (docs/TRUST.md).
 -- What a search finds, and the turn rule's choice.
 --
 --   wanted w t          := the task is one that the search w looks for

@@ -54,7 +54,7 @@ fn found_if(first: bool, f: Found, other: Found) -> Found
     if first { f } else { other }
 }
 
-// "if an enabled HEAD OF QUEUE task exists, and run is below 4 or no SIMPLE or ORDERED task is enabled, the oldest such HEAD OF QUEUE task; else .."
+// RULES 2.11 and 2.12, of what two searches found.
 pub fn choose(head: Found, plain: Found, run: u8) -> Found
     ensures { λ r. ⌜ r ≡ chosen head plain run ⌝ }
 {

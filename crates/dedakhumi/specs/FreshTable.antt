@@ -1,3 +1,4 @@
+-- Believed by nobody: code's own way of walking, proved equal to what the rules say (docs/TRUST.md).
 -- The loop that writes a fresh table's nexus records.
 use Prim.Native.Nat.{ℕ}
 use mathlib.Core.List.{List, _++_}

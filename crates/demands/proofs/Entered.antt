@@ -1,4 +1,4 @@
--- "Accepted" read off answers: a command enters exactly where a COMMAND is answered 0.
+-- RULES 22.2, accepted, read off answers: a command enters exactly where a COMMAND is answered 0.
 use Prim.Native.Nat.{ℕ}
 use mathlib.Core.Bool.{Bool, true, false, cond, _&&_, and-false as and-off}
 use mathlib.Core.Path.{_≡_, refl, ap, sym, _∙_}

@@ -108,7 +108,7 @@ module _ (t r e : List ℕ) (done : number t r e ≡ 0) (completes : kindOf e �
       (omega (arith, count-is t)))
       here)
 
-  -- "If a younger read overtakes that write": a COMPLETION that is answered 0, of the SIMPLE or ORDERED task at place i, means that no older record
+  -- RULES 2.3 and 2.4, no read overtakes a write: a COMPLETION that is answered 0, of the SIMPLE or ORDERED task at place i, means that no older record
   -- is HEAD OF QUEUE or ORDERED
   pub no-older-barrier :
       (i j : ℕ) → i < countIn t → recordName (taskAt t i) ≡ eventName e → (attributeAt t i ≡ 0) ⊎ (attributeAt t i ≡ 2) → j < i

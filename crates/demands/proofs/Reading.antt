@@ -48,7 +48,7 @@ module _ (e : List ℕ) where
   event-reads (Readable (Management n f)) q = field 2 (event-fields e (Management n f) q)
   event-reads (Readable (Condition h)) q = field 2 (event-fields e (Condition h) q)
 
-  -- "4 ACA": only that byte lets a task in that has attribute ACA
+  -- RULES 14.2: only the byte 4 lets a task in that has attribute ACA
   pub aca-asked : (c : Entry) → eventOf e ≡ Readable (Command c) → (newTask c) .attribute ≡ Aca → getD e firstOffset 0 ≡ 4
   aca-asked c q h = field 4 (event-fields e (Command c) q) ∙ go (c .asked) (sym (new-task-attribute c) ∙ h)
     where

@@ -1,4 +1,4 @@
--- Runs over bytes: what the port driver lends, call after call, and what the rules say of it.
+-- RULES 22.1: runs over bytes: what the port driver lends, call after call, and what the rules say of it.
 --
 --   Call                := the event bytes and the report buffer that one call of apply is lent, whatever they hold and however long they are
 --   applied t m         := what that call gives on the table t
@@ -22,10 +22,12 @@ use Rattle.operations.specs.Operations.{Outcome, refused, outcome}
 use Rattle.rules.specs.Types.{Task, Event, Command, Completion, Management, Condition, Policy, BadReport, BadEvent}
 use Rattle.records.specs.declared.events.EventRead.{EventRead, the-variants.Readable, the-variants.Unreadable}
 
+-- RULES 22.1: any bytes
 pub record Call : Type 0 where
   pub event : List ℕ
   pub report : List ℕ
 
+-- RULES 22.1: a call, and calls one after the other
 abbrev pub applied : List ℕ → Call → Outcome
 applied t m = outcome t (m .report) (m .event)
 
@@ -33,7 +35,7 @@ abbrev pub tableBy : List ℕ → List Call → List ℕ
 tableBy t [] = t
 tableBy t (m ∷ ms) = tableBy ((applied t m) .table) ms
 
--- "2 | report not 512 bytes", "3 | bad event"
+-- RULES 22.1: answers 2 and 3 are not put to the rules
 abbrev pub readIn : EventRead → List Event
 readIn Unreadable = []
 readIn (Readable e) = e ∷ []
@@ -49,6 +51,7 @@ abbrev pub eventsIn : List Call → List Event
 eventsIn [] = []
 eventsIn (m ∷ ms) = heard m ++ eventsIn ms
 
+-- RULES 5.14: the task that a COMMAND comes in as
 abbrev pub commandTask : EventRead → List Task
 commandTask Unreadable = []
 commandTask (Readable (Command c)) = newTask c ∷ []
@@ -56,10 +59,11 @@ commandTask (Readable (Completion n g f)) = []
 commandTask (Readable (Management n f)) = []
 commandTask (Readable (Condition c)) = []
 
+-- RULES 4.2: a fresh set, as bytes
 unfoldable pub opened : Policy → List ℕ
 opened p = tableBytes (fresh p)
 
--- the rules' own state, statuses, senses, ended records; a nexus above 7 is theirs to refuse
+-- RULES 23.3: the rules' own state, statuses, senses, ended records; a nexus above 7 is theirs to refuse
 abbrev pub expectedOn : State → List ℕ → EventRead → Outcome
 expectedOn s r Unreadable = refused BadEvent (tableBytes s) r
 expectedOn s r (Readable e) =

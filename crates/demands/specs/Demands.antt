@@ -1,7 +1,7 @@
--- The mission's three demands, over the bytes that the operations are lent. Document 01 stands beside this file; Calls has the words for runs, Seen
--- those for what a driver sees, history/specs/History those for serial numbers, rules/specs/Refusals those for the answers 5 to 8.
+-- RULES 23: the mission's three demands, over the bytes that the operations are lent. Calls has the words for runs, Seen those for what a driver sees,
+-- history/specs/History those for serial numbers, rules/specs/Refusals those for the answers 5 to 8.
 --
---   Demand1             := every input has an answer; each number exactly where document 01 gives it; what is refused changes nothing
+--   Demand1             := every input has an answer; each number exactly where the rules give it; what is refused changes nothing
 --   Demand2             := over any calls on a started table, answers, tables, reports and namings are those of the rules at every moment, and each
 --                          accepted command is in the table or has ended, once, by serial number and as a driver's ledger shows it
 --   turnsToWait k       := by how many turns a task has ended that was accepted with k older ones
@@ -31,21 +31,21 @@ use Rattle.demands.specs.Seen.{eventName, presentIn, isAccepted, endedIn
 
 -- 1 ----------------------------------------------------------------------------------------------------------------------------------------
 
+-- RULES 23.1: the answer of apply, of name
 abbrev pub number : List ℕ → List ℕ → List ℕ → ℕ
 number t r e = (answered (outcome t r e)) .answer
 
 abbrev pub nameNumber : List ℕ → ℕ
 nameNumber t = (turnFor (named t)) .answer
 
--- none of 1 to 4 applies, and the event is v
+-- RULES 19.3: none of 1 to 4 applies, and the event is v
 pub record Reaches (t r e : List ℕ) (v : Event) : Type 0 where
   pub table : GoodTable t
   pub report : length r ≡ reportSize
   pub event : eventOf e ≡ Readable v
   pub nexus : nexusOf v < nexuses
 
--- "Status is 0 except under 7, and sense (key, code, qualifier) is 0 except under 7 with status 02h. The ended count is the number of ended records in
--- the report, and 0 under every answer but 0 and 7."
+-- RULES 12.3, 18.2 and 19.2: what stands beside the answer
 pub record Fields (o : Outcome) : Type 0 where
   pub no-status : ((answered o) .answer ≡ 7 → ⊥) → (answered o) .status ≡ 0
   pub status : (answered o) .answer ≡ 7 → EntryStatus ((answered o) .status)
@@ -53,9 +53,8 @@ pub record Fields (o : Outcome) : Type 0 where
   pub ended : ((answered o) .answer ≡ 0) ⊎ ((answered o) .answer ≡ 7) → (answered o) .ended ≡ endedIn (o .report)
   pub none-ended : ((answered o) .answer ≡ 0 → ⊥) → ((answered o) .answer ≡ 7 → ⊥) → (answered o) .ended ≡ 0
 
--- The mission's 1: every event gets an answer, whatever its bytes and whatever the table holds; a bad table, policy, report buffer, event or nexus is
--- refused by the number in document 01 with both lent buffers unchanged, and no caller is trusted to have looked first. The last is met by the
--- functions of dedakhumi/src/lib.rt having no `requires`: what is said here of outcome, started and named for all lists they promise for all buffers.
+-- RULES 23.1 and 23.2: the first demand. That no caller is trusted to have looked first is met by the functions of dedakhumi/src/lib.rt having no `requires`:
+-- what is said here of outcome, started and named for all lists they promise for all buffers.
 pub record Demand1 : Type 0 where
   -- apply answers one of 0 to 8: each of 1 to 8 exactly where it applies, and so 0 exactly where none of them does
   pub some-answer : (t r e : List ℕ) → number t r e ≤ 8
@@ -88,10 +87,8 @@ pub record Demand1 : Type 0 where
 
 -- 2 ----------------------------------------------------------------------------------------------------------------------------------------
 
--- The mission's 2: over any sequence of events from a fresh table the states, statuses, unit attentions and aborts are those of the SAM-4 rules as
--- document 01 fixes them; ACA and run in the table, and the answer of the naming operation, are at every moment those of its rules, the turn rule
--- included; each accepted command is at every moment either in the table or ended, and it ends once. The calls ms are any calls at all, also those
--- that are refused: with a report buffer of another length, an event that cannot be read, a nexus above 7.
+-- RULES 23.3 and 23.4: the second demand. The calls ms are any calls at all, also those that are refused: with a report buffer of another length, an event that
+-- cannot be read, a nexus above 7.
 pub record Demand2 : Type 0 where
   -- a fresh table is what start leaves where it answers 0, whatever stood there before
   pub begins : (t : List ℕ) (b : ℕ) → startNumber t b ≡ 0 → (started t b) .table ≡ opened (policyFrom b)
@@ -125,16 +122,13 @@ pub record Demand2 : Type 0 where
 
 -- 3 ----------------------------------------------------------------------------------------------------------------------------------------
 
--- "the 5 x (k + 1)th turn"
+-- RULES 23.5: the bound
 abbrev pub turnsToWait : ℕ → ℕ
 turnsToWait k = 5 * (k + 1)
 
--- The mission's 3: take any task accepted with an attribute other than ACA, with k older tasks not ended then. A turn is an accepted completion of the
--- task that the turn rule names, with no ACA in effect before it. Whatever other events come between, HEAD OF QUEUE arrivals and refused calls
--- included, the task has ended by the time of the 5 x (k + 1)th turn after it was accepted: they can't stretch that.
--- By bytes and answers alone: the call m is a COMMAND answered 0 whose attribute byte is not 4; k is the task count in the table's header before it;
--- the end is that a report of the calls `later` lists its nexus and tag. The first one that does is its own end, since the table holds it
--- until then (demand 2, ledger) and takes no second task of that nexus and tag.
+-- RULES 23.5: the third demand, by bytes and answers alone. The call m is a COMMAND answered 0 whose attribute byte is not 4; k is the task count in the
+-- table's header before it; the calls `later` are any, HEAD OF QUEUE arrivals and refused ones included; the end is that a report of theirs lists its nexus and
+-- tag. The first one that does is its own end, since the table holds it until then (demand 2, ledger) and takes no second task of that nexus and tag.
 abbrev pub Demand3 : Type 0
 Demand3 =
     (t : List ℕ) (b : ℕ) (ms : List Call) (m : Call) (later : List Call) → startNumber t b ≡ 0

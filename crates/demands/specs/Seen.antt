@@ -1,4 +1,4 @@
--- What a port driver sees of a run: bytes, and the answers of the three functions. Nothing here asks the rules.
+-- RULES 22.2 to 22.4: what a port driver sees of a run: bytes, and the answers of the three functions. Nothing here asks the rules.
 --
 --   told t m             := what apply answers to the call m on the table t
 --   kindOf e, eventName e  := the kind of an event record; its nexus and tag
@@ -37,19 +37,20 @@ use Rattle.numbers.specs.declared.NamedTurn.{NamedTurn}
 use Rattle.numbers.specs.Boundary.{answered, turnFor}
 use Rattle.demands.specs.Calls.{Call, applied}
 
+-- RULES 20.1: of a call
 abbrev pub told : List ℕ → Call → Answered
 told t m = answered (applied t m)
 
 -- Names ------------------------------------------------------------------------------------------------------------------------------------
 
--- "event | 54 56 | kind; nexus; first; second; tag"
+-- RULES 16.6: kind, nexus and tag of an event
 abbrev pub kindOf : List ℕ → ℕ
 kindOf e = getD e kindOffset 0
 
 abbrev pub eventName : List ℕ → Named
 eventName e = record { nexus = getD e senderOffset 0; tag = tagIn e }
 
--- "task | 54 54 | nexus; attribute; state; control; tag", "ended | 54 45 | nexus; status; 0 0; tag": at the same places
+-- RULES 15.3 and 15.5: a task and an ended record have nexus and tag at the same places
 abbrev pub recordName : List ℕ → Named
 recordName r = record { nexus = getD r nexusOffset 0; tag = tagIn r }
 
@@ -57,31 +58,36 @@ abbrev pub namesFrom : ℕ → List ℕ → List Named
 namesFrom zero l = []
 namesFrom (suc n) l = recordName (take taskSize l) ∷ namesFrom n (drop taskSize l)
 
+-- RULES 13.2 and 15.3: a task of a table, its attribute
 abbrev pub taskAt : List ℕ → ℕ → List ℕ
 taskAt t i = recordAt taskSize t (tasksAt + taskSize * i)
 
 abbrev pub attributeAt : List ℕ → ℕ → ℕ
 attributeAt t i = getD (taskAt t i) attributeOffset 0
 
+-- RULES 13.2 and 15.2
 abbrev pub pendingByte : List ℕ → ℕ → ℕ
 pendingByte t i = getD (recordAt nexusSize t (nexusesAt + nexusSize * i)) pendingOffset 0
 
--- "Used task records come first, oldest first."
+-- RULES 17.1: oldest first
 abbrev pub presentIn : List ℕ → List Named
 presentIn t = namesFrom (countIn t) (drop tasksAt t)
 
+-- RULES 22.2: a name among others
 abbrev pub isListed : Named → List Named → Bool
 isListed k l = any (sameName k) l
 
 -- Accepted, ended, turns -------------------------------------------------------------------------------------------------------------------
 
+-- RULES 22.2: accepted
 abbrev pub isAccepted : List ℕ → Call → Bool
 isAccepted t m = eqb (kindOf (m .event)) 1 && eqb ((told t m) .answer) 0
 
--- "The ended count is the number of ended records in the report"
+-- RULES 19.2 and 22.2: as many as the ended count says
 abbrev pub listed : List ℕ → Call → List Named
 listed t m = namesFrom ((told t m) .ended) ((applied t m) .report)
 
+-- RULES 17.2 and 19.2: ended records by their mark
 abbrev pub endedAmong : ℕ → List ℕ → ℕ
 endedAmong zero l = 0
 endedAmong (suc n) l = one-if (marked (take taskSize l) 0x45) + endedAmong n (drop taskSize l)
@@ -89,29 +95,33 @@ endedAmong (suc n) l = one-if (marked (take taskSize l) 0x45) + endedAmong n (dr
 abbrev pub endedIn : List ℕ → ℕ
 endedIn r = endedAmong places r
 
+-- RULES 22.2: ended, by any of the calls
 abbrev pub listedBy : List ℕ → List Call → List Named
 listedBy t [] = []
 listedBy t (m ∷ ms) = listed t m ++ listedBy ((applied t m) .table) ms
 
+-- RULES 22.3: name gave this name
 abbrev pub isNamedBy : NamedTurn → Named → Bool
 isNamedBy u k = u .found && sameName (record { nexus = u .nexus; tag = u .tag }) k
 
--- "A turn is an accepted completion of the task that the turn rule names, with no ACA in effect before it": on the table before the call the ACA
--- byte is 0 and name names that task, and apply answers 0
+-- RULES 22.3
 unfoldable pub isTurnBy : List ℕ → Call → Bool
 isTurnBy t m =
     eqb (getD t acaOffset 0) 0 && eqb (kindOf (m .event)) 2 && isNamedBy (turnFor (named t)) (eventName (m .event)) && eqb ((told t m) .answer) 0
 
+-- RULES 22.3: how many
 abbrev pub turnsBy : List ℕ → List Call → ℕ
 turnsBy t [] = 0
 turnsBy t (m ∷ ms) = one-if (isTurnBy t m) + turnsBy ((applied t m) .table) ms
 
 -- The ledger -------------------------------------------------------------------------------------------------------------------------------
 
+-- RULES 22.4: on with what is there, or with nothing
 abbrev pub found : {A B : Type 0} → Option A → (A → Option B) → Option B
 found none f = none
 found (some a) f = f a
 
+-- RULES 22.4: a name dropped; there has to be one
 abbrev pub strike : Named → List Named → Option (List Named)
 strike k [] = none
 strike k (x ∷ l) = cond (sameName k x) (some l) (found (strike k l) (λ r. some (x ∷ r)))
@@ -120,10 +130,11 @@ abbrev pub strikeAll : List Named → List Named → Option (List Named)
 strikeAll [] l = some l
 strikeAll (k ∷ ks) l = found (strike k l) (strikeAll ks)
 
--- a call drops what its report lists, and adds its command where that is accepted, as the youngest
+-- RULES 22.4: a call drops what its report lists, and adds its command where that is accepted, as the youngest
 abbrev pub gained : List ℕ → Call → List Named
 gained t m = cond (isAccepted t m) (eventName (m .event) ∷ []) []
 
+-- RULES 22.4
 abbrev pub ledgerBy : List ℕ → List Call → List Named → Option (List Named)
 ledgerBy t [] l = some l
 ledgerBy t (m ∷ ms) l = found (strikeAll (listed t m) l) (λ r. ledgerBy ((applied t m) .table) ms (r ++ gained t m))

@@ -1,4 +1,4 @@
--- Sequences of events over the rules: what an accepted command's life is, and what a turn is (the mission's demands 2 and 3).
+-- RULES 21: sequences of events over the rules: what an accepted command's life is, and what a turn is.
 --
 --   Past                := a state with its past. A command's serial number is its place in the roll of those accepted
 --   begin s             := no event yet
@@ -22,6 +22,7 @@ use Rattle.rules.specs.Tasks.{withState, isNamed}
 use Rattle.rules.specs.Rulings.{State, isClear, turn, fresh, kept, lost, fatesOf, joinsOf, ruled, reportOf}
 use Rattle.rules.specs.Rules.{ruling, answer}
 
+-- RULES 21.1 and 21.2
 pub record Past : Type 0 where
   pub state : State
   -- the task that each accepted command came in as
@@ -33,14 +34,16 @@ pub record Past : Type 0 where
   -- all reports, one behind the other
   pub log : List Ended
 
+-- RULES 21.2: no event yet
 abbrev pub begin : State → Past
 begin s = record { state = s; roll = []; present = []; departed = []; log = [] }
 
+-- RULES 21.1: n and those behind it
 abbrev pub serialsFrom : ℕ → List Task → List ℕ
 serialsFrom n [] = []
 serialsFrom n (t ∷ ts) = n ∷ serialsFrom (suc n) ts
 
--- the serial numbers share the fates of the tasks
+-- RULES 21.2: the serial numbers share the fates of the tasks
 abbrev pub advanceBy : Past → Ruling → Past
 advanceBy h r =
     record {
@@ -51,6 +54,7 @@ advanceBy h r =
       log = h .log ++ reportOf (h .state) r;
     }
 
+-- RULES 21.2: one event, any events, any from a fresh table
 unfoldable pub advance : Past → Event → Past
 advance h e = advanceBy h (ruling (h .state) e)
 
@@ -61,24 +65,29 @@ play h (e ∷ es) = play (advance h e) es
 abbrev pub after : Policy → List Event → Past
 after p es = play (begin (fresh p)) es
 
+-- RULES 21.1: the task of a serial number; nobody where no command has it
 abbrev pub nobody : Task
 nobody = record { nexus = 0; attribute = Attribute.Simple; state = TaskState.Dormant; naca = false; tag = 0 }
 
 abbrev pub look : List Task → ℕ → Task
 look roll k = getD roll k nobody
 
+-- RULES 21.2: a task apart from its state, which goes on changing
 abbrev pub unstated : Task → Task
 unstated t = withState t TaskState.Dormant
 
+-- RULES 21.1: the task that an event lets in
 abbrev pub accepted : State → Event → List Task
 accepted s e = joinsOf (ruling s e)
 
+-- RULES 21.2: how often, of one serial number
 abbrev pub inTable : Past → ℕ → ℕ
 inTable h k = count (eqb k) (h .present)
 
 abbrev pub hasEnded : Past → ℕ → ℕ
 hasEnded h k = count (eqb k) (h .departed)
 
+-- RULES 21.3: accepted, answer 0
 abbrev pub isDone : Answer → Bool
 isDone Answer.Done = true
 isDone Answer.BadTable = false
@@ -91,16 +100,18 @@ isDone (Answer.EndedAtEntry st se) = false
 isDone Answer.Rejected = false
 isDone Answer.BadPolicy = false
 
--- "A turn is an accepted completion of the task that the turn rule names, with no ACA in effect before it." (mission, 3), by the answer it got
+-- RULES 21.3: by the answer that the event got
 abbrev pub turnBy : State → Event → Answer → Bool
 turnBy s (Event.Command c) a = false
 turnBy s (Event.Completion n g f) a = isClear (s .header .aca) && isNamed n g (turn s) && isDone a
 turnBy s (Event.Management n f) a = false
 turnBy s (Event.Condition c) a = false
 
+-- RULES 21.3
 abbrev pub isTurn : State → Event → Bool
 isTurn s e = turnBy s e (answer s e)
 
+-- RULES 21.3: how many
 abbrev pub turns : Past → List Event → ℕ
 turns h [] = 0
 turns h (e ∷ es) = one-if (isTurn (h .state) e) + turns (advance h e) es

@@ -144,7 +144,7 @@ well-is b long h t =
     (aca-fits (getD (recordAt headSize b 0) acaOffset 0) (omega (arith, f .2, byte acaOffset (omega arith))))
     (nexuses-low n (drop tasksAt b) t)
 
--- code's order is the paper's
+-- code's test is the one of RULES 17.3
 pub table-test-is : (b : List ℕ) → Bytes b → tableTest b ≡ goodTable b
 unfolding tableTest goodTable
 table-test-is b by =

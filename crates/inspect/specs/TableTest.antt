@@ -1,3 +1,4 @@
+-- Believed by nobody: code's own way of walking, proved equal to what the rules say (docs/TRUST.md).
 -- The tests of a table as code makes them: record by record, with the states in one pass, and names as numbers.
 --
 --   usedFit n aca o l   := the first n task records are good, and their states fit behind o

@@ -117,7 +117,7 @@ fn is_among(k: Key, a: Key, b: Key, c: Key, d: Key) -> bool
     (k == a) | (k == b) | (k == c) | (k == d)
 }
 
-// "no two tasks share nexus and tag". Four at a time: behind the n stand keys that no task has, so that the last four may reach past it.
+// RULES 10.5. Four at a time: behind the n stand keys that no task has, so that the last four may reach past it.
 fn distinct(keys: &[Key; 68], n: usize) -> bool
     requires { ⌜ (n ≤ places) × (length (now keys) ≡ 68) × Spared (now keys) n ⌝ }
     ensures { λ r. ⌜ r ≡ keysApart (take n (now (keys .entry))) ⌝ }

@@ -1,3 +1,4 @@
+-- Believed by nobody: code's own way of walking, proved equal to what the rules say (docs/TRUST.md).
 -- The checks at entry that are left, as code asks them: the tails of the one list.
 --
 --   checksPastAca h c p      := what the checks from 3 on come to

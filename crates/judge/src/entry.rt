@@ -1,4 +1,4 @@
-// Entry of a command: the checks in document 01's order.
+// RULES 5: entry of a command, the checks in their order.
 use decide::pending::sense_for;
 use parts::asks_aca;
 use parts::attribute_of;

@@ -1,4 +1,4 @@
--- Lists: tests and counts.
+-- Lists: tests and counts. No clause of docs/RULES.md is about them: clauses are said with them.
 --
 --   one-if b        := 1 if b holds, else 0
 --   isNil xs        := xs is empty

@@ -1,4 +1,4 @@
--- Records of bytes in a list of bytes, over their width w.
+-- Records of bytes in a list of bytes, over their width w. No clause of docs/RULES.md is about them: clauses are said with the first and the third.
 --
 --   recordAt w l at         := the record of l at a place
 --   putAt w l at r          := l with the record r at that place

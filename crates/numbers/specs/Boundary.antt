@@ -1,4 +1,4 @@
--- What the C port driver is told: document 01's numbers (operations/specs/AnswerNumbers) in the layout of include/dedakhumi.h.
+-- RULES 20: what the C port driver is told: the numbers of RULES 18 (operations/specs/AnswerNumbers) in the layout of include/dedakhumi.h.
 --
 --   numbersOf a n     := the answer a with n ended records
 --   answered o        := what apply returns
@@ -16,6 +16,7 @@ use Rattle.rules.specs.Types.{Answer, Turn, Nothing, Names}
 use Rattle.operations.specs.Types.{Naming}
 use Rattle.numbers.specs.Types.{Answered, NamedTurn}
 
+-- RULES 20.1: apply
 abbrev pub numbersOf : Answer → ℕ → Answered
 numbersOf a n =
     record {
@@ -30,6 +31,7 @@ numbersOf a n =
 abbrev pub answered : Outcome → Answered
 answered o = numbersOf (o .answer) (o .ended)
 
+-- RULES 20.2: name
 abbrev pub turnInNumbers : Answer → Turn → NamedTurn
 turnInNumbers a Nothing = record { answer = (said a) .number; found = false; nexus = 0; tag = 0 }
 turnInNumbers a (Names n) = record { answer = (said a) .number; found = true; nexus = n .nexus; tag = n .tag }
@@ -37,20 +39,22 @@ turnInNumbers a (Names n) = record { answer = (said a) .number; found = true; ne
 abbrev pub turnFor : Naming → NamedTurn
 turnFor n = turnInNumbers (n .answer) (n .turn)
 
+-- RULES 20.2: start
 abbrev pub startNumber : List ℕ → ℕ → ℕ
 startNumber t p = (said ((started t p) .answer)) .number
 
+-- RULES 1.3 and 20.3 to 20.5: the three functions, of every input, by the bytes lent and by nothing else.
 -- dedakhumi_start on the buffer t with the policy byte p answers a and leaves t′
 pub record StartsAs (t : List ℕ) (p a : ℕ) (t′ : List ℕ) : Type 0 where
   pub answer : a ≡ startNumber t p
   pub table : t′ ≡ (started t p) .table
 
--- dedakhumi_apply on the table t, the report buffer r and the event bytes e answers a and leaves t′ and r′
+-- RULES 20.3: dedakhumi_apply on the table t, the report buffer r and the event bytes e answers a and leaves t′ and r′
 pub record AppliesAs (t r e : List ℕ) (a : Answered) (t′ r′ : List ℕ) : Type 0 where
   pub answer : a ≡ answered (outcome t r e)
   pub table : t′ ≡ (outcome t r e) .table
   pub report : r′ ≡ (outcome t r e) .report
 
--- dedakhumi_name on the table t answers u
+-- RULES 20.3: dedakhumi_name on the table t answers u
 pub record NamesAs (t : List ℕ) (u : NamedTurn) : Type 0 where
   pub turn : u ≡ turnFor (named t)

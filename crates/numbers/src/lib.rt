@@ -1,4 +1,4 @@
-// Answers in document 01's numbers, laid out as C reads them.
+// RULES 20.1 and 20.2: answers in their numbers, laid out as C reads them.
 use values::Answer;
 use values::Tag;
 use values::Turn;

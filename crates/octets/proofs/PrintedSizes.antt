@@ -1,5 +1,4 @@
--- The lengths that document 01 prints: "Every record is 8 bytes", "584 bytes", "Report: 512 bytes", "a length other than 8" for an event; and its tags:
--- "tag, 2 bytes", "Tags are big-endian."
+-- The lengths as numbers, RULES 13.1 to 13.3; and tags as two bytes, big-endian, RULES 14.1.
 use Prim.Native.Nat.{ℕ, _+_, _*_, _/_, _%_}
 use mathlib.Core.Path.{_≡_, refl}
 use mathlib.Core.List.{List, [], _∷_}

@@ -50,7 +50,7 @@ number-low (suc (suc n)) f b = omega (arith, number-low (suc n) f b, b (suc n))
 pub tag-good : (f : ℕ → ℕ) → ((i : ℕ) → f i < 256) → tagBytes (tagIn (tabled (tagOffset + tagSize) f)) ≡ tabled tagSize (λ i. f (tagOffset + i))
 tag-good f b = bytes-of-number tagSize (λ i. f (tagOffset + i)) (λ i. b (tagOffset + i)) []
 
--- "tag 0" is zeros
+-- a tag that is 0 is zeros
 pub tag-none : (f : ℕ → ℕ) → tagIn (tabled (tagOffset + tagSize) f) ≡ 0 → tagBytes 0 ≡ tabled tagSize (λ i. f (tagOffset + i))
 tag-none f e = number-none tagSize (λ i. f (tagOffset + i)) e []
 

@@ -1,5 +1,5 @@
--- How long the records are, and where they and their fields stand (document 01, "Bytes"). src/sizes.rt has the same numbers for code; no other contract,
--- law or function of the library says them. That they come to the paper's 8, 584 and 512 is proved (proofs/PrintedSizes).
+-- RULES 13: how long the records are, and where they and their fields stand. src/sizes.rt has the same numbers for code; no other contract, law or function of
+-- the library says them. That they come to 8, 584 and 512 is proved (proofs/PrintedSizes).
 --
 --   untaggedSize, taggedSize  := the width of a header or nexus record; of one that names a task: a task, ended or event record
 --   tagOffset, tagSize, tagBound  := where such a record has its tag, how many bytes that is, and what every tag is below
@@ -14,11 +14,11 @@
 use Prim.Native.Nat.{ℕ, _+_, _*_, _^_}
 use Rattle.values.specs.Limits.{places, nexuses}
 
--- "Every record is 8 bytes"
+-- RULES 13.1: a header or nexus record
 abbrev pub untaggedSize : ℕ
 untaggedSize = 8
 
--- "task | 54 54 | nexus; attribute; state; control (bit 0 NACA); tag, 2 bytes"; the tag ends an ended and an event record too
+-- RULES 13.1: one that names a task, of which the tag is the last two bytes
 abbrev pub tagOffset : ℕ
 tagOffset = 6
 
@@ -31,6 +31,7 @@ tagBound = 256 ^ tagSize
 abbrev pub taggedSize : ℕ
 taggedSize = tagOffset + tagSize
 
+-- RULES 13.1: by kind
 abbrev pub headSize : ℕ
 headSize = untaggedSize
 
@@ -46,7 +47,7 @@ endedSize = taggedSize
 abbrev pub eventSize : ℕ
 eventSize = taggedSize
 
--- "Table: header, 8 nexus records in order 0 to 7, 64 task records; 584 bytes."
+-- RULES 13.2: a table
 abbrev pub nexusesAt : ℕ
 nexusesAt = headSize
 
@@ -56,11 +57,11 @@ tasksAt = nexusesAt + nexusSize * nexuses
 abbrev pub tableSize : ℕ
 tableSize = tasksAt + taskSize * places
 
--- "Report: 512 bytes": room for an ended record of each task
+-- RULES 13.3: room for an ended record of each task
 abbrev pub reportSize : ℕ
 reportSize = endedSize * places
 
--- "header | 54 48 | 01; policy; task count 0 to 64; ACA: 0 or 1 + faulted nexus; run 0 to 4; 0"
+-- RULES 13.4 and 15.1: the fields of a header
 abbrev pub policyOffset : ℕ
 policyOffset = 3
 
@@ -73,14 +74,14 @@ acaOffset = 5
 abbrev pub runOffset : ℕ
 runOffset = 6
 
--- "nexus | 54 4E | nexus; pending bits; 0 0 0 0"
+-- RULES 13.4 and 15.2: those of a nexus record
 abbrev pub pendingOffset : ℕ
 pendingOffset = 3
 
 abbrev pub pendingsAt : ℕ
 pendingsAt = nexusesAt + pendingOffset
 
--- "task | 54 54 | nexus; attribute; state; control (bit 0 NACA); tag, 2 bytes"
+-- RULES 13.4 and 15.3: those of a task record
 abbrev pub nexusOffset : ℕ
 nexusOffset = 2
 
@@ -99,7 +100,7 @@ attributesAt = tasksAt + attributeOffset
 abbrev pub statesAt : ℕ
 statesAt = tasksAt + stateOffset
 
--- "event | 54 56 | kind; nexus; first; second; tag"
+-- RULES 13.4 and 16.6: those of an event
 abbrev pub kindOffset : ℕ
 kindOffset = 2
 

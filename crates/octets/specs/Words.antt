@@ -1,3 +1,4 @@
+-- Believed by nobody: code's own way of walking, proved equal to what the rules say (docs/TRUST.md).
 -- A record as one number, for a test that compares it at once.
 --
 --   halfOf a b c d     := four bytes as a number, the first the lowest

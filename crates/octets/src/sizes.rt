@@ -1,5 +1,4 @@
-// How long the records are, and where they and their fields stand (document 01, "Bytes"): the numbers for code. specs/Sizes.antt has the same for contracts
-// and laws.
+// RULES 13: how long the records are, and where they and their fields stand: the numbers for code. specs/Sizes.antt has the same for contracts and laws.
 use values::NEXUSES;
 use values::PLACES;
 

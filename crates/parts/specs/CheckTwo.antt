@@ -1,3 +1,4 @@
+-- Believed by nobody: code's own way of walking, proved equal to what the rules say (docs/TRUST.md).
 -- Check 2 at entry, as code asks it.
 --
 --   heldOff aca n asks has   := check 2 stops a command of nexus n; asks: for attribute ACA; has: there is an ACA task

@@ -1,4 +1,4 @@
--- What the player writes for event bytes, piece by piece.
+-- RULES 24: what the player writes for event bytes, piece by piece.
 --
 --   pieces n              := how many pieces n bytes make: whole records, and a shorter last one
 --   Run                   := the lines written, and the table and the report buffer afterwards
@@ -16,9 +16,11 @@ use Rattle.operations.specs.Operations.{Outcome, outcome}
 use Rattle.numbers.specs.Boundary.{answered}
 use Rattle.lines.specs.Lines.{line, Written}
 
+-- RULES 24.3 and 24.4: every eighth byte, and a last piece
 abbrev pub pieces : ℕ → ℕ
 pieces n = (n + (eventSize - 1)) / eventSize
 
+-- RULES 24.1: one line for each piece
 pub record Run : Type 0 where
   pub lines : List ℕ
   pub table : List ℕ
@@ -27,19 +29,21 @@ pub record Run : Type 0 where
 abbrev pub behind : List ℕ → Run → Run
 behind ls p = record { lines = ls ++ p .lines; table = p .table; report = p .report }
 
--- "A last piece under 8 bytes is a bad event": take leaves it as short as it is. An event record is as wide as a task record.
+-- RULES 24.2 to 24.4: nothing for empty input; take leaves a last piece under 8 bytes as short as it is, and so a bad event
 unfoldable pub played : ℕ → List ℕ → List ℕ → List ℕ → Run
 played zero t r es = record { lines = []; table = t; report = r }
 played (suc n) t r es =
     behind (line (answered (outcome t r (take eventSize es))))
     (played n ((outcome t r (take eventSize es)) .table) ((outcome t r (take eventSize es)) .report) (drop eventSize es))
 
+-- RULES 24.1: one piece
 pub record OnePlayed (o : Outcome) (before : List ℕ) (at : ℕ) (t r out : List ℕ) (end : ℕ) : Type 0 where
   pub text : Written before at out end (line (answered o))
   pub short : end ≤ at + 20
   pub table : t ≡ o .table
   pub report : r ≡ o .report
 
+-- RULES 24.1 to 24.4: all of them
 pub record PlayedAs (p : Run) (t r out : List ℕ) (end : ℕ) : Type 0 where
   pub lines : take end out ≡ p .lines
   pub table : t ≡ p .table

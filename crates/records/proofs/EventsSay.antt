@@ -217,7 +217,7 @@ event-fields e v =
     (λ q r. event-line _ _ _ _ _ v r .1)
     (λ q r. absurd (let z : _≡_ {A = ℕ} 0 1 = cc in omega arith))
 
--- "Anything else is a bad event": every string of bytes that is read is the record of its event, with its own "first" and tag
+-- RULES 16.6: every string of bytes that is read is the record of its event, with its own first and tag
 pub event-is-written :
     (e : List ℕ) (v : Event) → Bytes e → eventOf e ≡ Readable v
     → Spare (getD e 4 0) v × (e ≡ eventRecord (getD e 4 0) (tagIn e) v)
@@ -242,7 +242,7 @@ event-is-written e v by =
         sym (take-all eventSize e (omega arith)) ∙ record-bytes eventSize e 0 (omega arith)
         ∙ rw (m, n, tag-good (λ i. getD e i 0) by)
 
--- "Anything else is a bad event, as is a length other than 8": answer 3 exactly where the bytes are no event record
+-- RULES 16.6: answer 3 exactly where the bytes are no event record
 pub bad-event-says : (e : List ℕ) → Bytes e → (eventOf e ≡ Unreadable) ↔ (IsEvent e → ⊥)
 bad-event-says e by = (to, λ h. from h (eventOf e) refl)
   where

@@ -1,4 +1,4 @@
--- The writing of a well-formed state is a good table; and the test of a good table holds exactly if the paper's words do.
+-- The writing of a well-formed state is a good table; and the test of a good table holds exactly if the statement does (RULES 17.3).
 use Prim.Native.Nat.{ℕ, zero, suc, _+_, _-_, _*_, _≤_, _<_}
 use mathlib.Core.Bool.{Bool, true, false, _&&_}
 use mathlib.Core.Path.{_≡_, refl, ap, sym, _∙_}
@@ -108,7 +108,7 @@ good-is-written b by = (
   λ w. rw (w .1) at (good-written (stateOf b) (says-tested (stateOf b) (w .0))),
 )
 
--- The paper's words ------------------------------------------------------------------------------------------------------------------------
+-- The statement ----------------------------------------------------------------------------------------------------------------------------
 
 -- a walk that tests every record, and what it says of each
 module _ (w : ℕ) (fit : ℕ → List ℕ → Bool) (walk : ℕ → ℕ → List ℕ → Bool)

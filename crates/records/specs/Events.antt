@@ -1,14 +1,14 @@
--- Event records (document 01, "Event records"): "Anything else is a bad event, as is a length other than 8."
+-- RULES 16: event records, read and written; what no event writes is a bad event.
 --
 --   eventFrom k n a b g := the event of kind k, nexus n, first a, second b and tag g, or that there is none
 --   eventOf bytes       := the event of a string of bytes, or that there is none
 --   eventLine k n a b g := the record of kind k, nexus n, first a, second b and tag g
---   askedNumber a, finishNumber, functionNumber a, happeningNumber   := "first" of a value, a where the value does not keep it
---   secondNumber c, functionTag g f, happeningNexus h   := "second" of a COMMAND, tag of a function, nexus of a condition
---   eventRecord a g v   := the record of the event v, with a for "first" and g for the tag where v does not keep them
+--   askedNumber a, finishNumber, functionNumber a, happeningNumber   := the field first of a value, a where the value does not keep it
+--   secondNumber c, functionTag g f, happeningNexus h   := the field second of a COMMAND, tag of a function, nexus of a condition
+--   eventRecord a g v   := the record of the event v, with a for the field first and g for the tag where v does not keep them
 --   eventBytes v        := one record of the event v
---   Spare a v           := a may stand for "first" in a record of v; asked only where v does not keep it
---   IsEvent bytes       := the bytes are an event record, in the paper's words
+--   Spare a v           := a may stand for the field first in a record of v; asked only where v does not keep it
+--   IsEvent bytes       := the bytes are the record of an event
 use Prim.Native.Nat.{ℕ, _+_, _*_, _<_}
 use mathlib.Core.Path.{_≡_}
 use mathlib.Core.Logic.{_⊎_}
@@ -24,48 +24,55 @@ use Rattle.records.specs.Records.{eventSize, marked}
 
 -- Reading ----------------------------------------------------------------------------------------------------------------------------------
 
+-- RULES 16.6: an event, or a bad one
 abbrev pub readIf : Bool → Event → EventRead
 readIf true e = EventRead.Readable e
 readIf false e = EventRead.Unreadable
 
+-- RULES 16.1: the attribute, of which any byte is taken
 abbrev pub askedFrom : ℕ → Asked
 askedFrom a = cond (attributeFits a) (Asked.Known (attributeFrom a)) Asked.NoneOfFour
 
--- "1 COMMAND: first is the attribute, any byte; second has bit 0 NACA and bit 1 exempt, other bits 0."
+-- RULES 16.1: COMMAND
 abbrev pub commandFrom : ℕ → ℕ → ℕ → ℕ → EventRead
 commandFrom n a b g =
     readIf (ltb b 4) (Event.Command (record { nexus = n; asked = askedFrom a; naca = bitOf b 1; exempt = bitOf b 2; tag = g }))
 
+-- RULES 16.2: the status
 abbrev pub finishFrom : ℕ → Finish
 finishFrom a = cond (eqb a 0) Finish.Good Finish.CheckCondition
 
--- "2 COMPLETION: first is 00h GOOD or 02h CHECK CONDITION; second 0."
+-- RULES 16.2: COMPLETION
 abbrev pub completionFrom : ℕ → ℕ → ℕ → ℕ → EventRead
 completionFrom n a b g = readIf ((eqb a 0 || eqb a 2) && eqb b 0) (Event.Completion n g (finishFrom a))
 
+-- RULES 16.3: the function
 abbrev pub functionFrom : ℕ → ℕ → Function
 functionFrom a g =
     cond (eqb a 1) (Function.AbortTask g)
     (cond (eqb a 2) Function.AbortTaskSet
     (cond (eqb a 3) Function.ClearTaskSet (cond (eqb a 4) Function.ClearAca (cond (eqb a 5) Function.LogicalUnitReset Function.Unknown))))
 
--- "3 MANAGEMENT: first is 1 ABORT TASK, .., others unknown; second 0; tag 0 for functions 2 to 5."
+-- RULES 16.3: MANAGEMENT
 abbrev pub managementFrom : ℕ → ℕ → ℕ → ℕ → EventRead
 managementFrom n a b g = readIf (eqb b 0 && (ltb a 2 || ltb 5 a || eqb g 0)) (Event.Management n (functionFrom a g))
 
+-- RULES 16.4: the condition
 abbrev pub happeningFrom : ℕ → ℕ → Happening
 happeningFrom n a = cond (eqb a 1) Happening.PowerOn (cond (eqb a 2) Happening.HardReset (Happening.NexusLoss n))
 
--- "4 CONDITION: first is 1 power on, 2 hard reset, 3 nexus loss; second 0, tag 0; nexus 0 for power on and hard reset."
+-- RULES 16.4 and 16.5: CONDITION
 abbrev pub conditionFrom : ℕ → ℕ → ℕ → ℕ → EventRead
 conditionFrom n a b g =
     readIf (eqb b 0 && eqb g 0 && (eqb a 3 || (eqb n 0 && (eqb a 1 || eqb a 2)))) (Event.Condition (happeningFrom n a))
 
+-- RULES 16.1 to 16.5: by kind
 unfoldable pub eventFrom : ℕ → ℕ → ℕ → ℕ → ℕ → EventRead
 eventFrom k n a b g =
     cond (eqb k 1) (commandFrom n a b g)
     (cond (eqb k 2) (completionFrom n a b g) (cond (eqb k 3) (managementFrom n a b g) (cond (eqb k 4) (conditionFrom n a b g) EventRead.Unreadable)))
 
+-- RULES 16.6: by length and mark
 unfoldable pub eventOf : List ℕ → EventRead
 eventOf e =
     cond (eqb (length e) eventSize && marked e 0x56)
@@ -74,25 +81,25 @@ eventOf e =
 
 -- Writing ----------------------------------------------------------------------------------------------------------------------------------
 
--- "event | 54 56 | kind; nexus; first; second; tag"; "Tags are big-endian."
+-- RULES 16.6: mark and fields
 abbrev pub eventLine : ℕ → ℕ → ℕ → ℕ → ℕ → List ℕ
 eventLine k n a b g = 0x54 ∷ 0x56 ∷ k ∷ n ∷ a ∷ b ∷ tagBytes g
 
--- "first is the attribute, any byte": of one that is none of the four the event does not keep which
+-- RULES 16.1: of an attribute that is none of the four the event does not keep which
 abbrev pub askedNumber : ℕ → Asked → ℕ
 askedNumber a (Asked.Known t) = attributeNumber t
 askedNumber a Asked.NoneOfFour = a
 
--- "second has bit 0 NACA and bit 1 exempt, other bits 0"
+-- RULES 16.1: NACA and exempt
 abbrev pub secondNumber : Entry → ℕ
 secondNumber c = flag (c .naca) + flag (c .exempt) * 2
 
--- "first is 00h GOOD or 02h CHECK CONDITION"
+-- RULES 16.2
 abbrev pub finishNumber : Finish → ℕ
 finishNumber Finish.Good = 0x00
 finishNumber Finish.CheckCondition = 0x02
 
--- "first is 1 ABORT TASK, 2 ABORT TASK SET, 3 CLEAR TASK SET, 4 CLEAR ACA, 5 LOGICAL UNIT RESET, others unknown"
+-- RULES 16.3: of an unknown function the event does not keep which
 abbrev pub functionNumber : ℕ → Function → ℕ
 functionNumber a (Function.AbortTask t) = 1
 functionNumber a Function.AbortTaskSet = 2
@@ -101,7 +108,7 @@ functionNumber a Function.ClearAca = 4
 functionNumber a Function.LogicalUnitReset = 5
 functionNumber a Function.Unknown = a
 
--- "tag 0 for functions 2 to 5": of an unknown function the event does not keep the tag
+-- RULES 16.3: nor does it keep the tag of one
 abbrev pub functionTag : ℕ → Function → ℕ
 functionTag g (Function.AbortTask t) = t
 functionTag g Function.AbortTaskSet = 0
@@ -110,35 +117,35 @@ functionTag g Function.ClearAca = 0
 functionTag g Function.LogicalUnitReset = 0
 functionTag g Function.Unknown = g
 
--- "first is 1 power on, 2 hard reset, 3 nexus loss"
+-- RULES 16.4
 abbrev pub happeningNumber : Happening → ℕ
 happeningNumber Happening.PowerOn = 1
 happeningNumber Happening.HardReset = 2
 happeningNumber (Happening.NexusLoss n) = 3
 
--- "nexus 0 for power on and hard reset"
+-- RULES 16.5: 0 for power on and hard reset
 abbrev pub happeningNexus : Happening → ℕ
 happeningNexus Happening.PowerOn = 0
 happeningNexus Happening.HardReset = 0
 happeningNexus (Happening.NexusLoss n) = n
 
--- "1 COMMAND: ..", "2 COMPLETION: .. second 0", "3 MANAGEMENT: .. second 0; ..", "4 CONDITION: .. second 0, tag 0; .."
+-- RULES 16.1 to 16.6: of every event
 abbrev pub eventRecord : ℕ → ℕ → Event → List ℕ
 eventRecord a g (Event.Command c) = eventLine 1 (c .nexus) (askedNumber a (c .asked)) (secondNumber c) (c .tag)
 eventRecord a g (Event.Completion n t f) = eventLine 2 n (finishNumber f) 0 t
 eventRecord a g (Event.Management n f) = eventLine 3 n (functionNumber a f) 0 (functionTag g f)
 eventRecord a g (Event.Condition h) = eventLine 4 (happeningNexus h) (happeningNumber h) 0 0
 
--- 7 is neither one of the four attributes nor a function that is known
+-- RULES 16.1 and 16.3: 7 is neither one of the four attributes nor a function that is known
 unfoldable pub eventBytes : Event → List ℕ
 eventBytes v = eventRecord 7 0 v
 
--- none of the four attributes
+-- RULES 16.1: none of the four attributes
 abbrev pub SpareAttribute : ℕ → Asked → Type 0
 SpareAttribute a (Asked.Known t) = Unit {0}
 SpareAttribute a Asked.NoneOfFour = attributeFits a ≡ false
 
--- "others unknown"
+-- RULES 16.3: an unknown function
 abbrev pub SpareFunction : ℕ → Function → Type 0
 SpareFunction a (Function.AbortTask t) = Unit {0}
 SpareFunction a Function.AbortTaskSet = Unit {0}
@@ -147,13 +154,14 @@ SpareFunction a Function.ClearAca = Unit {0}
 SpareFunction a Function.LogicalUnitReset = Unit {0}
 SpareFunction a Function.Unknown = (a ≡ 0) ⊎ (5 < a)
 
+-- RULES 16.1 and 16.3: of an event
 abbrev pub Spare : ℕ → Event → Type 0
 Spare a (Event.Command c) = SpareAttribute a (c .asked)
 Spare a (Event.Completion n t f) = Unit {0}
 Spare a (Event.Management n f) = SpareFunction a f
 Spare a (Event.Condition h) = Unit {0}
 
--- The record of some event; "Anything else is a bad event, as is a length other than 8."
+-- RULES 16.6: the record of some event; whatever is none is a bad event
 pub record IsEvent (e : List ℕ) : Type 0 where
   pub event : Event
   pub first : ℕ

@@ -1,4 +1,4 @@
--- The number of each value, and the value of each number (document 01, "Bytes").
+-- RULES 14: the number of each value, and the value of each number.
 --
 --   attributeNumber, stateNumber, acaNumber, qerrNumber, policyNumber, pendingNumber   := the byte of a value
 --   attributeFrom, stateFrom, acaFrom, policyFrom, pendingFrom   := the value of a byte; of one that the tests refuse, any
@@ -10,7 +10,7 @@ use lib.Dec.{eqb, ltb}
 pub use Rattle.octets.specs.Bytes.{flag, bitOf, tagIn, tagBytes}
 use Rattle.rules.specs.Types.{Attribute, TaskState, Qerr, Policy, Allegiance, Pending}
 
--- "Attributes: 0 SIMPLE, 1 HEAD OF QUEUE, 2 ORDERED, 4 ACA."
+-- RULES 14.2: attributes
 abbrev pub attributeNumber : Attribute → ℕ
 attributeNumber Attribute.Simple = 0
 attributeNumber Attribute.HeadOfQueue = 1
@@ -23,7 +23,7 @@ attributeFits n = eqb n 0 || eqb n 1 || eqb n 2 || eqb n 4
 abbrev pub attributeFrom : ℕ → Attribute
 attributeFrom n = cond (eqb n 0) Attribute.Simple (cond (eqb n 1) Attribute.HeadOfQueue (cond (eqb n 2) Attribute.Ordered Attribute.Aca))
 
--- "States: 1 dormant, 2 enabled, 3 blocked."
+-- RULES 14.2: states
 abbrev pub stateNumber : TaskState → ℕ
 stateNumber TaskState.Dormant = 1
 stateNumber TaskState.Enabled = 2
@@ -35,7 +35,7 @@ stateFits n = eqb n 1 || eqb n 2 || eqb n 3
 abbrev pub stateFrom : ℕ → TaskState
 stateFrom n = cond (eqb n 1) TaskState.Dormant (cond (eqb n 2) TaskState.Enabled TaskState.Blocked)
 
--- "ACA: 0 or 1 + faulted nexus"
+-- RULES 14.3
 abbrev pub acaNumber : Allegiance → ℕ
 acaNumber Allegiance.Clear = 0
 acaNumber (Allegiance.Faulted f) = f + 1
@@ -43,7 +43,7 @@ acaNumber (Allegiance.Faulted f) = f + 1
 abbrev pub acaFrom : ℕ → Allegiance
 acaFrom n = cond (eqb n 0) Allegiance.Clear (Allegiance.Faulted (n - 1))
 
--- "Policy: bits 0 and 1 are QERR (00b, 01b, 11b; 10b is bad), bit 2 is TAS, the rest 0."
+-- RULES 14.4
 abbrev pub qerrNumber : Qerr → ℕ
 qerrNumber Qerr.EndNone = 0
 qerrNumber Qerr.EndAll = 1
@@ -61,7 +61,7 @@ policyFits n = ltb n 8 && not (eqb (n % 4) 2)
 abbrev pub policyFrom : ℕ → Policy
 policyFrom n = record { qerr = qerrFrom (n % 4); tas = bitOf n 4 }
 
--- "bit 0 power on; bit 1 hard reset; bit 2 logical unit reset; bit 3 I_T nexus loss; bit 4 commands cleared .. Bits 5 to 7 are 0."
+-- RULES 14.5
 abbrev pub pendingNumber : Pending → ℕ
 pendingNumber p = flag (p .power) + flag (p .hard) * 2 + flag (p .unit) * 4 + flag (p .loss) * 8 + flag (p .cleared) * 16
 

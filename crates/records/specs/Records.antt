@@ -1,4 +1,4 @@
--- The records of document 01, "Bytes": written, read, and tested.
+-- RULES 15: the records, written, read, and tested.
 --
 --   headSize, nexusSize, taskSize, endedSize, eventSize  := the widths of the records, passed on from octets/specs/Sizes
 --   marked                := passed on from octets/specs/Bytes
@@ -19,7 +19,7 @@ use Rattle.rules.specs.Types.{Task, Header, Pending, Ended}
 use Rattle.records.specs.Numbers.{flag, tagIn, tagBytes, attributeNumber, attributeFits, attributeFrom, stateNumber, stateFits, stateFrom}
 use Rattle.records.specs.Numbers.{acaNumber, acaFrom, policyNumber, policyFits, policyFrom, pendingNumber, pendingFits, pendingFrom}
 
--- "header | 54 48 | 01; policy; task count 0 to 64; ACA: 0 or 1 + faulted nexus; run 0 to 4; 0"
+-- RULES 15.1: header
 abbrev pub headerBytes : Header → List ℕ
 headerBytes h = 0x54 ∷ 0x48 ∷ 1 ∷ policyNumber (h .policy) ∷ h .count ∷ acaNumber (h .aca) ∷ h .run ∷ 0 ∷ []
 
@@ -39,7 +39,7 @@ headerFits r =
     && leb (getD r runOffset 0) mostRun
     && eqb (getD r 7 0) 0
 
--- "nexus | 54 4E | nexus; pending bits; 0 0 0 0": the first of the four bytes is a parameter, so that laws hold whatever a table has there
+-- RULES 15.2: nexus. The first of the four zeros is a parameter, so that laws hold whatever a table has there.
 abbrev pub nexusBytes : ℕ → Pending → ℕ → List ℕ
 nexusBytes i p c = 0x54 ∷ 0x4E ∷ i ∷ pendingNumber p ∷ c ∷ 0 ∷ 0 ∷ 0 ∷ []
 
@@ -51,7 +51,7 @@ nexusFits i r =
     marked r 0x4E && eqb (getD r 2 0) i && pendingFits (getD r pendingOffset 0) && eqb (getD r 4 0) 0 && eqb (getD r 5 0) 0 && eqb (getD r 6 0) 0
     && eqb (getD r 7 0) 0
 
--- "task | 54 54 | nexus; attribute; state; control (bit 0 NACA); tag, 2 bytes"; "Tags are big-endian."
+-- RULES 15.3: task
 abbrev pub taskBytes : Task → List ℕ
 taskBytes t =
     0x54
@@ -72,13 +72,13 @@ taskFrom r =
       tag = tagIn r;
     }
 
--- "A task's nexus is 0 to 7."; "Bits 1 to 7 of a task's control byte are 0."
+-- RULES 15.3: the nexus is 0 to 7, and bits 1 to 7 of control are 0
 abbrev pub taskFits : List ℕ → Bool
 taskFits r =
     marked r 0x54 && ltb (getD r nexusOffset 0) nexuses && attributeFits (getD r attributeOffset 0) && stateFits (getD r stateOffset 0)
     && ltb (getD r controlOffset 0) 2
 
--- "Unused ones are 54 54 and six zeros."
+-- RULES 15.4: unused task record
 abbrev pub unusedBytes : List ℕ
 unusedBytes = 0x54 ∷ 0x54 ∷ 0 ∷ 0 ∷ 0 ∷ 0 ∷ tagBytes 0
 
@@ -86,6 +86,6 @@ abbrev pub unusedFits : List ℕ → Bool
 unusedFits r =
     marked r 0x54 && eqb (getD r 2 0) 0 && eqb (getD r 3 0) 0 && eqb (getD r 4 0) 0 && eqb (getD r 5 0) 0 && eqb (tagIn r) 0
 
--- "ended | 54 45 | nexus; status; 0 0; tag"
+-- RULES 15.5: ended
 abbrev pub endedBytes : Ended → List ℕ
 endedBytes e = 0x54 ∷ 0x45 ∷ e .nexus ∷ e .status ∷ 0 ∷ 0 ∷ tagBytes (e .tag)

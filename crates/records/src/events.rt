@@ -1,4 +1,4 @@
-// An event record decoded to an event or a refusal.
+// RULES 16: an event record decoded to an event or a refusal.
 use crate::tasks::attribute_fits;
 use crate::tasks::attribute_from;
 use octets::bit_of;

@@ -1,4 +1,4 @@
--- What must never happen, on the paper's own cases: each is computed, so that a rule that breaks it shows the wrong value.
+-- What must never happen, on small cases: each is computed, so that a rule that breaks it shows the wrong value.
 use Prim.Native.Nat.{ℕ, zero, suc}
 use mathlib.Core.Bool.{Bool, true, false}
 use mathlib.Core.Path.{_≡_, refl}
@@ -83,17 +83,17 @@ tags es = map (λ (x : Ended). x .tag) es
 abbrev twoReads : State
 twoReads = from fresh00 (command 0 1 Simple false ∷ command 0 2 Simple false ∷ [])
 
--- "in their former age order": the report of an event that ends two tasks has the older one first
+-- RULES 4.9: the report of an event that ends two tasks has the older one first
 pub older-end-first : tags (report twoReads (Management 0 AbortTaskSet)) ≡ 1 ∷ 2 ∷ []
 unfolding fresh whoseTurn newTask enter manage ruleFor ruling step report
 older-end-first = refl
 
--- "every task of that nexus ends": not its twin alone
+-- RULES 5.2: every task of that nexus ends, not its twin alone
 pub overlapped-ends-nexus : tags (report twoReads (command 0 1 Simple false)) ≡ 1 ∷ 2 ∷ []
 unfolding fresh whoseTurn newTask enter ruleFor ruling step report
 overlapped-ends-nexus = refl
 
--- "the tasks ended by this event": no other
+-- RULES 4.9: the tasks that this event ended, and no other
 pub one-end-listed : tags (report twoReads (Management 0 (AbortTask 1))) ≡ 1 ∷ []
 unfolding fresh whoseTurn newTask enter manage ruleFor ruling step report
 one-end-listed = refl

@@ -184,7 +184,7 @@ abbrev enabledOf : Option Task → Bool
 enabledOf none = false
 enabledOf (some t) = enabledTask t
 
--- "no two tasks share nexus and tag": an enabled one is the one found
+-- RULES 10.5: an enabled one is the one found
 enabled-found :
     (n g : ℕ) (ts : List Task) → distinct ts ≡ true
     → any (λ (t : Task). same n g t && enabledTask t) ts ≡ enabledOf (first (same n g) ts)
@@ -290,7 +290,7 @@ pub bits-after :
 bits-after s e i b w l =
     rw (pending-after s i (says-tested s w) l e) (changed-bits (attention s e i) (pendingOf s i) b)
 
--- "the highest rank is reported, 02h with 6h/code": the bit that a command is told of is the answer's
+-- RULES 5.8: the bit that a command is told of is the answer's
 pub reported-is-answered :
     (s : State) (c : Entry) (i : ℕ) (b : Bit) → WellFormed s → attention s (Command c) i ≡ Reports b
     → answer s (Command c) ≡ EndedAtEntry 0x02 (senseFor b)
@@ -342,8 +342,7 @@ brought s c i =
     go none q e = tt
     go (some b) q e = (q, e)
 
--- "the highest rank is reported .. and that bit is cleared": a bit that a command changes is the highest of the command's own nexus, and
--- the answer tells it; no other bit of any nexus changes
+-- RULES 5.8 and 5.9: a bit that a command changes is the highest of the command's own nexus, and the answer tells it; no other bit of any nexus changes
 pub only-one-reported :
     (s : State) (c : Entry) (i : ℕ) (b : Bit) → WellFormed s → i < nexuses
     → (isSet (pendingOf (step s (Command c)) i) b ≡ isSet (pendingOf s i) b → ⊥)

@@ -26,7 +26,7 @@ use Rattle.rules.proofs.Attentions.{every-bit}
 
 -- Overlapped -------------------------------------------------------------------------------------------------------------------------------
 
--- "1. Same nexus and tag in the table (overlapped command)": a command from nexus 0 to 7 whose nexus and tag a task of the table has
+-- RULES 5.2, check 1: a command from nexus 0 to 7 whose nexus and tag a task of the table has
 pub record Overlapped (s : State) (c : Entry) : Type 0 where
   pub low : c .nexus < nexuses
   pub here : any (same (c .nexus) (c .tag)) (s .tasks) ≡ true
@@ -37,12 +37,12 @@ overlapped-ruling :
 unfolding ruling ruleFor enter
 overlapped-ruling s c o = rw (lt-ltb (c .nexus) nexuses (o .low), o .here)
 
--- "CHECK CONDITION 02h, sense Bh/4Eh/00h"
+-- RULES 5.2: status and sense
 pub overlapped-answer : (s : State) (c : Entry) → Overlapped s c → answer s (Command c) ≡ EndedAtEntry 0x02 (sense 0xB 0x4E 0x00)
 unfolding answer
 overlapped-answer s c o = rw (overlapped-ruling s c o)
 
--- "every task of that nexus ends": none is left
+-- RULES 5.2: no task of that nexus is left
 pub overlapped-leaves-none : (s : State) (c : Entry) → Overlapped s c → any (ofNexus (c .nexus)) ((step s (Command c)) .tasks) ≡ false
 unfolding step
 overlapped-leaves-none s c o =
@@ -110,14 +110,14 @@ nothing-changes s c se w = (
 key-of : {st : ℕ} {se : Sense} → EndedAtEntry st se ≡ EndedAtEntry 0x02 (sense 0x5 0x49 0x00) → se .key ≡ 0x5
 key-of {st} {se} e = let z : se ≡ sense 0x5 0x49 0x00 = cc in ap (λ x. x .key) z
 
--- of check 3: "02h with 6h/code"
+-- RULES 3.2 and 3.3: the key
 key-six : (b : Bit) → (senseFor b) .key ≡ 0x6
 key-six = every-bit (λ b. (senseFor b) .key ≡ 0x6) refl refl refl refl refl
 
 abbrev Unchanged : State → Ruling → Type 0
 Unchanged s r = answerOf r ≡ EndedAtEntry 0x02 (sense 0x5 0x49 0x00) → (ruled s r ≡ s) × (reportOf s r ≡ [])
 
--- "4. Attribute not 0, 1, 2, 4, or 4 without ACA: 02h, 5h/49h/00h": a command that is answered so changes nothing
+-- RULES 5.11, check 4: a command that is answered so changes nothing
 pub bad-attribute-changes-nothing :
     (s : State) (c : Entry) → WellFormed s → answer s (Command c) ≡ EndedAtEntry 0x02 (sense 0x5 0x49 0x00)
     → (step s (Command c) ≡ s) × (report s (Command c) ≡ [])
@@ -155,7 +155,7 @@ passed-ruling s c p =
     quiet (inl e) = rw e
     quiet (inr e) = cases (λ o. o ≡ NoBit) (c .exempt) (λ h. refl) (λ h. e)
 
--- "5. 64 tasks: TASK SET FULL 28h. .. 6. Accepted": at 64 and at no fewer
+-- RULES 5.12 and 5.14, checks 5 and 6: full at 64 and at no fewer
 pub full-at-64-only :
     (s : State) (c : Entry) → WellFormed s → Passes s c
     → (length (s .tasks) ≡ places → answer s (Command c) ≡ endedWith 0x28) × (length (s .tasks) < places → answer s (Command c) ≡ Done)

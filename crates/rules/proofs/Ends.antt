@@ -24,7 +24,7 @@ lost-within (f ∷ fs) [] = nil-sublist []
 lost-within (Stays ∷ fs) (x ∷ xs) = Sublist·cons x (lost-within fs xs)
 lost-within (Ends st ∷ fs) (x ∷ xs) = Sublist·cons-cons x (lost-within fs xs)
 
--- "the tasks ended by this event in their former age order": the names in the report are those in the table, in its order, some left out
+-- RULES 4.9: the names in the report are those in the table, in its order, some left out
 pub report-within : (s : State) (e : Event) → Sublist (map endedName (report s e)) (map taskName (s .tasks))
 unfolding report
 report-within s e =
@@ -33,7 +33,7 @@ report-within s e =
 
 -- Who was there ----------------------------------------------------------------------------------------------------------------------------
 
--- the task t of the table afterwards was in the table before, under the same nexus and tag; "enabled tasks become blocked; dormant ones stay so"
+-- the task t of the table afterwards was in the table before, under the same nexus and tag; RULES 2.8 of its state
 pub record WasThere (before : List Task) (t : Task) : Type 0 where
   pub task : Task
   pub older : List Task
@@ -120,7 +120,7 @@ happen-joins h PowerOn = refl
 happen-joins h HardReset = refl
 happen-joins h (NexusLoss n) = refl
 
--- "6. Accepted as youngest": nothing but a command lets a task in
+-- RULES 5.14: nothing but a command lets a task in
 pub only-commands-join : (s : State) (e : Event) → isCommand e ≡ false → joinsOf (ruling s e) ≡ []
 only-commands-join s e =
     other-cases (λ e r. isCommand e ≡ false → joinsOf r ≡ []) s (λ e n. refl)
@@ -144,7 +144,7 @@ joins-in-peace s e =
     (λ c. inl (happen-joins (s .header) c))
     e
 
--- "When ACA begins, enabled tasks become blocked; dormant ones stay so, even if they become eligible", and nobody joins
+-- RULES 2.8, and nobody joins
 pub aca-begins :
     (s : State) (e : Event) (f : ℕ) → s .header .aca ≡ Clear → (step s e) .header .aca ≡ Faulted f
     → (older : List Task) (t : Task) (younger : List Task) → Stands ((step s e) .tasks) older t younger → WasThere (s .tasks) t

@@ -1,4 +1,4 @@
--- Laws that document 01's plausible errors, and the faults found in the field, would break.
+-- Laws that the plausible errors of RULES 26.13, and the faults found in the field, would break.
 use Prim.Native.Nat.{ℕ, zero, suc, _+_, _<_}
 use mathlib.Core.Bool.{Bool, true, false}
 use mathlib.Core.Option.{Option, none, some}
@@ -33,7 +33,7 @@ pub younger-changes-none :
     (a : Allegiance) (ts us : List Task) → (rest : List Task) × (restate a Clear (ts ++ us) ≡ restate a Clear ts ++ rest)
 younger-changes-none a ts us = settle-prefix [] ts us
 
--- "ABORT TASK SET .. ACA stays."
+-- RULES 7.7
 pub abort-task-set-keeps-aca : (s : State) (n : ℕ) → (step s (Management n AbortTaskSet)) .header .aca ≡ s .header .aca
 unfolding step ruling ruleFor manage
 abort-task-set-keeps-aca s n = cases (λ r. (ruled s r) .header .aca ≡ s .header .aca) (ltb n nexuses) (λ e. refl) (λ e. refl)
@@ -53,7 +53,7 @@ plain-resets HeadOfQueue run e = not-both e refl
 plain-resets Ordered run e = refl
 plain-resets Aca run e = not-both e refl
 
--- "to 0 if SIMPLE or ORDERED"
+-- RULES 1.15: to 0 if SIMPLE or ORDERED
 pub turn-resets-run : (h : Header) (f : Finish) (t : Task) → isPlain (t .attribute) ≡ true → (finish h f t true) .header .run ≡ 0
 turn-resets-run h Good t e = plain-resets (t .attribute) (h .run) e
 turn-resets-run h CheckCondition t e = plain-resets (t .attribute) (h .run) e
@@ -87,7 +87,7 @@ aborted-is-gone s n g l =
 pub qerr-all-ends : (n g : ℕ) (p : Policy) (t : Task) → p .qerr ≡ EndAll → isEnds (fateOf (FailedTask n g p) t) ≡ true
 qerr-all-ends n g p t e = rw e (cases (λ f. isEnds f ≡ true) (same n g t) (λ s. refl) (λ s. refl))
 
--- "01b every other task": of whichever nexus
+-- RULES 4.5, 01b: every other task, of whichever nexus
 pub qerr-all-empties : (n g : ℕ) (p : Policy) (ts : List Task) → p .qerr ≡ EndAll → kept (map (fateOf (FailedTask n g p)) ts) ts ≡ []
 qerr-all-empties n g p ts e = all-end (fateOf (FailedTask n g p)) ts (λ t. qerr-all-ends n g p t e) .0
 
@@ -95,7 +95,7 @@ all-power : (ps : List Pending) → map afterPowerOn ps ≡ replicate (length ps
 all-power [] = refl
 all-power (p ∷ ps) = ap (λ (l : List Pending). afterPowerOn noPending ∷ l) (all-power ps)
 
--- "A fresh table equals the state after power on."
+-- RULES 4.2 and 8.2
 pub power-on-fresh : (s : State) → WellFormed s → step s (Condition PowerOn) ≡ fresh (lasting (s .header))
 unfolding step ruling ruleFor happen fresh
 power-on-fresh s w = λ i. record { header = head i; pending = pend i; tasks = none-left i }

@@ -1,4 +1,4 @@
--- "Policy survives all.": what lasts of the header is as it was after every event.
+-- RULES 1.13: what lasts of the header is as it was after every event.
 use Prim.Native.Nat.{ℕ}
 use mathlib.Core.Bool.{Bool}
 use mathlib.Core.Path.{_≡_, refl}

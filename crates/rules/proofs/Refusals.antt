@@ -24,7 +24,7 @@ use Rattle.rules.proofs.WellSays.{says-tested}
 use Rattle.rules.proofs.Attentions.{every-bit}
 use Rattle.rules.proofs.FieldErrors.{topIs, top-first}
 
--- The checks, in the paper's words ---------------------------------------------------------------------------------------------------------
+-- The checks one by one --------------------------------------------------------------------------------------------------------------------
 
 asks-known : (a : Asked) → asksAca a ≡ true → a ≡ Known Aca
 asks-known (Known Simple) e = not-both e refl
@@ -166,7 +166,7 @@ module _ (s : State) where
   says-condition HardReset = tt
   says-condition (NexusLoss n) = tt
 
-  -- every answer of the rules says what the paper says of it
+  -- every answer of the rules says what RULES 12 says of it
   says : (e : Event) → Says s e (answer s e)
   unfolding answer ruling ruleFor
   says e =
@@ -184,12 +184,12 @@ answer-low : (s : State) (e : Event) → nexusOf e < nexuses → answer s e ≡ 
 unfolding answer
 answer-low s e l = rw (ruling-low s e l)
 
--- "4 | nexus above 7"
+-- RULES 9.3: answer 4
 pub nexus-says : (s : State) (e : Event) → (answer s e ≡ NexusAboveSeven) ↔ (nexuses ≤ nexusOf e)
 unfolding answer
 nexus-says s e = (λ a. rw a at (says s e), λ l. rw (ruling-high s e l))
 
--- "5 | completion: no such task": exactly where the event completes a task that is not in the table
+-- RULES 12.1, answer 5: exactly where the event completes a task that is not in the table
 pub absent-says : (s : State) (e : Event) → nexusOf e < nexuses → (answer s e ≡ NoSuchTask) ↔ Absent s e
 unfolding complete
 absent-says s e low = (λ a. rw a at (says s e), back e low)
@@ -202,7 +202,7 @@ absent-says s e low = (λ a. rw a at (says s e), back e low)
         go none q = refl
         go (some t) q = not-both (first-any (same n g) (same n g) (s .tasks) t q (first-passes (same n g) (s .tasks) t q)) x
 
--- "6 | completion: task not enabled": exactly where it completes one that is there and not enabled
+-- RULES 12.1, answer 6: exactly where it completes one that is there and not enabled
 pub waits-says : (s : State) (e : Event) → WellFormed s → nexusOf e < nexuses → (answer s e ≡ NotEnabled) ↔ Waits s e
 unfolding complete
 waits-says s e w low = (λ a. rw a at (says s e), back e low)
@@ -224,7 +224,7 @@ waits-says s e w low = (λ a. rw a at (says s e), back e low)
               not-true (enabledTask t) (o .1),
             )
 
--- "7 | command ended at entry, with status and sense": exactly where the event is a command that one of the checks 1 to 5 stops
+-- RULES 12.2, answer 7: exactly where the event is a command that one of the checks 1 to 5 stops
 pub entry-says :
     (s : State) (e : Event) → WellFormed s → nexusOf e < nexuses
     → ((st : ℕ) × (se : Sense) × (answer s e ≡ EndedAtEntry st se)) ↔ EndsAtEntry s e
@@ -241,7 +241,7 @@ entry-says s e w low = (λ a. (rw (a .2) at (says s e)) .0 w, back e low)
         (λ st. (_, _, refl))
         (λ p. absurd (not-stopped s c w p x)))
 
--- "8 | function rejected": exactly where the function is unknown, or CLEAR ACA from another nexus than the faulted one
+-- RULES 12.4, answer 8: exactly where the function is unknown, or CLEAR ACA from another nexus than the faulted one
 pub rejected-says : (s : State) (e : Event) → nexusOf e < nexuses → (answer s e ≡ Rejected) ↔ RejectedBy s e
 unfolding manage
 rejected-says s e low = (λ a. rw a at (says s e), back e low)
@@ -251,7 +251,7 @@ rejected-says s e low = (λ a. rw a at (says s e), back e low)
     back (Management n ClearAca) l (not-faulted {f} a ne) =
         rw (answer-low s (Management n ClearAca) l, rule-management s n ClearAca, a, ne-eqb n f ne)
 
--- "sense (key, code, qualifier) is 0 except under 7 with status 02h"
+-- RULES 18.2: no sense without 02h
 pub sense-with-check :
     (s : State) (e : Event) (st : ℕ) (se : Sense) → answer s e ≡ EndedAtEntry st se → (st ≡ 0x02 → ⊥)
     → se ≡ record { key = 0; code = 0; qualifier = 0 }

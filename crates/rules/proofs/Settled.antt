@@ -40,7 +40,7 @@ pub eligible-within :
     (fewer older : List Attribute) (a : Attribute) → Within fewer older → eligible older a ≡ true → eligible fewer a ≡ true
 eligible-within fewer older a w e = rw (w a (not-true _ e))
 
--- "HEAD OF QUEUE always"
+-- RULES 2.2
 pub head-free : (older : List Attribute) → any (holdsBack HeadOfQueue) older ≡ false
 head-free [] = refl
 head-free (o ∷ older) = head-free older

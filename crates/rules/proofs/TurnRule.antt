@@ -19,7 +19,7 @@ use Rattle.rules.proofs.Distinct.{same-parts, distinct-first}
 use Rattle.rules.proofs.Settled.{headTask, is-aca, settled-cons, enabled-head, held-back, oldest-enabled}
 use Rattle.rules.proofs.WellSays.{says-tested, clear-settled}
 
--- "With ACA: the ACA task, else nothing"
+-- RULES 2.10
 pub named-in-aca : (f run : ℕ) (ts : List Task) → whoseTurn (Faulted f) run ts ≡ first acaTask ts
 unfolding whoseTurn
 named-in-aca f run ts = refl
@@ -60,7 +60,7 @@ none-plain u us e h =
 pub oldest-plain : (u : Task) (us : List Task) → settled [] (u ∷ us) ≡ true → headTask u ≡ false → enabledPlain u ≡ true
 oldest-plain u us e h = rw (head-or-plain (u .attribute) (settled-cons [] u us e .ordinary) h, oldest-enabled u us e)
 
--- the rule's "else" with a HEAD OF QUEUE task as the oldest does not come up: that task is enabled, and no other is
+-- RULES 2.12: the rule's last choice with a HEAD OF QUEUE task as the oldest does not come up: that task is enabled, and no other is
 pub else-not-head :
     (run : ℕ) (u : Task) (us : List Task) → settled [] (u ∷ us) ≡ true
     → any enabledHead (u ∷ us) && (ltb run 4 || not (any enabledPlain (u ∷ us))) ≡ false → headTask u ≡ false
@@ -211,7 +211,7 @@ plain-oldest s u younger w c e h =
     let k : settled [] (u ∷ younger) ≡ true = rw e at (clear-settled s w c) in
     split (headTask u) (λ y. not-both (rw e at h) (none-plain u younger k y)) (λ y. oldest-plain u younger k y)
 
--- so "else the oldest enabled task" is no HEAD OF QUEUE task while a SIMPLE or ORDERED one is enabled
+-- RULES 2.12: so the last choice is no HEAD OF QUEUE task while a SIMPLE or ORDERED one is enabled
 pub else-plain :
     (s : State) (x : Task) → WellFormed s → s .header .aca ≡ Clear → any enabledPlain (s .tasks) ≡ true
     → first enabledTask (s .tasks) ≡ some x → enabledPlain x ≡ true

@@ -1,4 +1,4 @@
--- Each event keeps a state well formed. Here that is said of the test, taken apart; WellSays carries it to the paper's words.
+-- Each event keeps a state well formed. Here that is said of the test, taken apart; WellSays carries it to the statement (RULES 10).
 use Prim.Native.Nat.{ℕ, suc, _≤_, _<_}
 use mathlib.Core.Bool.{Bool, true, false, cond, _&&_, not, and-false as and-off}
 use mathlib.Core.Path.{_≡_, refl, ap, _∙_}

@@ -1,4 +1,4 @@
--- The test of a well-formed state holds exactly if the paper's words do; and every event keeps them.
+-- The test of a well-formed state holds exactly if the statement does (RULES 10); and every event keeps them.
 use Prim.Native.Nat.{ℕ, _<_}
 use mathlib.Core.Bool.{Bool, true, false, _||_, not}
 use mathlib.Core.Path.{_≡_, refl, ap, sym, _∙_}

@@ -1,6 +1,5 @@
--- The pending bits bit by bit: what an event brings to a nexus, by its cause, and what that does to each bit, by its rank.
--- Document 01, "Bytes" (pending bits), "Entry of a command", 3, and "Ends, ACA and aborts". It says once more, from the paper, what Bits,
--- Rulings and Rules compute; that the two agree is proved (proofs/Attentions).
+-- RULES 11: the pending bits bit by bit: what an event brings to a nexus, by its cause, and what that does to each bit, by its rank. It says once more what
+-- Bits, Rulings and Rules compute; that the two agree is proved (proofs/Attentions).
 --
 --   rank b, ranks              := the rank of a bit, 0 the highest; the bits in that order
 --   isSet p b, highest p       := the bit b is set in p; the bit of highest rank that is set, if one is
@@ -25,7 +24,7 @@ use Rattle.rules.specs.Rules.{asksAca, nexusOf}
 
 -- By rank ----------------------------------------------------------------------------------------------------------------------------------
 
--- "highest rank first: bit 0 power on; bit 1 hard reset; bit 2 logical unit reset; bit 3 I_T nexus loss; bit 4 commands cleared"
+-- RULES 3.1: the ranks in their order
 abbrev pub rank : Bit → ℕ
 rank Bit.PowerBit = 0
 rank Bit.HardBit = 1
@@ -36,7 +35,7 @@ rank Bit.ClearedBit = 4
 abbrev pub ranks : List Bit
 ranks = Bit.PowerBit ∷ Bit.HardBit ∷ Bit.UnitBit ∷ Bit.LossBit ∷ Bit.ClearedBit ∷ []
 
--- one bit of the five
+-- RULES 3.1: one bit of the five
 abbrev pub isSet : Pending → Bit → Bool
 isSet p Bit.PowerBit = p .power
 isSet p Bit.HardBit = p .hard
@@ -44,18 +43,17 @@ isSet p Bit.UnitBit = p .unit
 isSet p Bit.LossBit = p .loss
 isSet p Bit.ClearedBit = p .cleared
 
--- "the highest rank" that is set
+-- RULES 3.1: the highest in rank that is set
 abbrev pub highest : Pending → Option Bit
 highest p = first (isSet p) ranks
 
+-- RULES 11.1: nothing, a bit that is given, a bit that is reported
 pub data Attention : Type 0 where
   Unmoved : Attention
   Gets : Bit → Attention
   Reports : Bit → Attention
 
--- "Power on likewise: bit 0 and no other", "Hard reset likewise: bit 1, losing 2 to 4", "gets bit 2 and loses bits 3 and 4",
--- "gives it bit 3 and removes its bit 4", "gets bit 4" are one rule: the bit is set, those of higher rank stay, those of lower rank go.
--- Of a report: "that bit is cleared".
+-- RULES 11.1: one given is set, those of higher rank stay, those of lower rank go; one reported goes
 abbrev pub bitAfter : Attention → Bit → Bool → Bool
 bitAfter Unmoved b old = old
 bitAfter (Gets a) b old = cond (ltb (rank b) (rank a)) old (eqb (rank b) (rank a))
@@ -63,38 +61,39 @@ bitAfter (Reports a) b old = cond (eqb (rank b) (rank a)) false old
 
 -- By cause ---------------------------------------------------------------------------------------------------------------------------------
 
--- "2. ACA in effect. Faulted nexus: attribute ACA with no ACA task present goes on"; with an ACA no other command does
+-- RULES 5.4 and 5.5: check 2 lets pass an ACA command of the faulted nexus where no ACA task is there, and no other
 abbrev pub passesAca : Allegiance → Entry → Bool → Bool
 passesAca Allegiance.Clear c aca = true
 passesAca (Allegiance.Faulted f) c aca = eqb (c .nexus) f && asksAca (c .asked) && not aca
 
--- not "1. Same nexus and tag in the table", and check 2 lets it pass
+-- RULES 11.2: checks 1 and 2 let it pass
 abbrev pub reaches3 : State → Entry → Bool
 reaches3 s c = not (any (same (c .nexus) (c .tag)) (s .tasks)) && passesAca (s .header .aca) c (any acaTask (s .tasks))
 
+-- RULES 11.2: the bit, if one is pending
 abbrev pub reportsBit : Option Bit → Attention
 reportsBit none = Unmoved
 reportsBit (some b) = Reports b
 
--- "3. Not exempt and a pending bit set: the highest rank is reported, 02h with 6h/code, and that bit is cleared."
+-- RULES 11.2
 abbrev pub reportedBy : State → Entry → Attention
 reportedBy s c = cond (reaches3 s c && not (c .exempt)) (reportsBit (highest (pendingOf s (c .nexus)))) Unmoved
 
--- "If TAS is 0, each other nexus that lost a task so gets bit 4": where all tasks end, one that has a task has lost it
+-- RULES 11.3: where all tasks end, a nexus that has a task has lost it
 abbrev pub clearedBy : State → ℕ → ℕ → Attention
 clearedBy s n i = cond (not (s .header .policy .tas) && not (eqb i n) && any (ofNexus i) (s .tasks)) (Gets Bit.ClearedBit) Unmoved
 
--- a completion is accepted: the task is there (else answer 5) and enabled (else answer 6)
+-- RULES 11.3: a completion is accepted: the task is there (else answer 5) and enabled (else answer 6)
 abbrev pub completes : State → ℕ → ℕ → Bool
 completes s n g = any (λ (t : Task). same n g t && enabledTask t) (s .tasks)
 
--- "QERR: 00b none, 01b every other task, 11b the rest of that nexus"
+-- RULES 11.3: QERR 01b and no other
 abbrev pub endsOthers : Qerr → Bool
 endsOthers Qerr.EndNone = false
 endsOthers Qerr.EndAll = true
 endsOthers Qerr.EndNexus = false
 
--- "CLEAR TASK SET ends all"; "Logical unit reset .. every nexus gets bit 2"; no other function brings a bit
+-- RULES 11.3 and 11.4: CLEAR TASK SET, LOGICAL UNIT RESET, and no other function
 abbrev pub byFunction : State → ℕ → Function → ℕ → Attention
 byFunction s n (Function.AbortTask g) i = Unmoved
 byFunction s n Function.AbortTaskSet i = Unmoved
@@ -103,13 +102,13 @@ byFunction s n Function.ClearAca i = Unmoved
 byFunction s n Function.LogicalUnitReset i = Gets Bit.UnitBit
 byFunction s n Function.Unknown i = Unmoved
 
--- "Hard reset likewise: bit 1 .. Power on likewise: bit 0 .. Nexus loss .. gives it bit 3"
+-- RULES 11.4: conditions
 abbrev pub byHappening : Happening → ℕ → Attention
 byHappening Happening.PowerOn i = Gets Bit.PowerBit
 byHappening Happening.HardReset i = Gets Bit.HardBit
 byHappening (Happening.NexusLoss n) i = cond (eqb i n) (Gets Bit.LossBit) Unmoved
 
--- GOOD ends no other task; a CHECK CONDITION reaches another nexus by QERR alone
+-- RULES 11.2 to 11.4: GOOD ends no other task; a CHECK CONDITION reaches another nexus by QERR alone
 abbrev pub caused : State → Event → ℕ → Attention
 caused s (Event.Command c) i = cond (eqb i (c .nexus)) (reportedBy s c) Unmoved
 caused s (Event.Completion n g Finish.Good) i = Unmoved
@@ -117,6 +116,6 @@ caused s (Event.Completion n g Finish.CheckCondition) i = cond (completes s n g 
 caused s (Event.Management n f) i = byFunction s n f i
 caused s (Event.Condition c) i = byHappening c i
 
--- answer 4, "nexus above 7": table "same"
+-- RULES 11.5
 unfoldable pub attention : State → Event → ℕ → Attention
 attention s e i = cond (ltb (nexusOf e) nexuses) (caused s e i) Unmoved

@@ -1,5 +1,4 @@
--- Where the answers 5, 6, 7 and 8 stand: document 01, "Answer numbers", "Entry of a command, checks in order" and "Ends, ACA and aborts".
--- It says once more, from the paper, what Rules computes; that the two agree is proved (proofs/Refusals).
+-- RULES 12: where the answers 5, 6, 7 and 8 stand. It says once more what Rules computes; that the two agree is proved (proofs/Refusals).
 --
 --   Absent s e        := answer 5: the event e completes a task that is not in the table
 --   Waits s e         := answer 6: it completes one that is there and not enabled
@@ -17,44 +16,45 @@ use Rattle.rules.specs.Tasks.{places, acaTask, same, enabledTask}
 use Rattle.rules.specs.Rulings.{State, pendingOf}
 use Rattle.rules.specs.Attentions.{isSet}
 
--- "5 | completion: no such task"
+-- RULES 12.1: answer 5
 pub data Absent (s : State) : Event → Type 0 where
   no-such-task : {n g : ℕ} {f : Finish} → any (same n g) (s .tasks) ≡ false → Absent s (Completion n g f)
 
--- "6 | completion: task not enabled"
+-- RULES 12.1: answer 6
 pub data Waits (s : State) : Event → Type 0 where
   not-enabled : {n g : ℕ} {f : Finish} → any (λ (t : Task). same n g t && not (enabledTask t)) (s .tasks) ≡ true
       → Waits s (Completion n g f)
 
+-- RULES 12.2: what stops a command at entry
 pub data Stopped (s : State) (c : Entry) : Type 0 where
-  -- "1. Same nexus and tag in the table (overlapped command)"
+  -- check 1
   overlapped : any (same (c .nexus) (c .tag)) (s .tasks) ≡ true → Stopped s c
-  -- "2. ACA in effect. Faulted nexus: attribute ACA with no ACA task present goes on": no other nexus, no other attribute, no second ACA task
+  -- check 2: no other nexus goes on, no other attribute, no second ACA task
   other-nexus : {f : ℕ} → s .header .aca ≡ Faulted f → (c .nexus ≡ f → ⊥) → Stopped s c
   other-attribute : {f : ℕ} → s .header .aca ≡ Faulted f → (c .asked ≡ Known Aca → ⊥) → Stopped s c
   aca-task-present : {f : ℕ} → s .header .aca ≡ Faulted f → any acaTask (s .tasks) ≡ true → Stopped s c
-  -- "3. Not exempt and a pending bit set"
+  -- check 3
   unit-attention : (b : Bit) → c .exempt ≡ false → isSet (pendingOf s (c .nexus)) b ≡ true → Stopped s c
-  -- "4. Attribute not 0, 1, 2, 4, or 4 without ACA"
+  -- check 4
   none-of-four : c .asked ≡ NoneOfFour → Stopped s c
   aca-without-aca : c .asked ≡ Known Aca → s .header .aca ≡ Clear → Stopped s c
-  -- "5. 64 tasks"
+  -- check 5
   full : length (s .tasks) ≡ places → Stopped s c
 
--- "7 | command ended at entry, with status and sense"
+-- RULES 12.2: answer 7
 pub data EndsAtEntry (s : State) : Event → Type 0 where
   at-entry : {c : Entry} → Stopped s c → EndsAtEntry s (Command c)
 
--- "CHECK CONDITION 02h", "BUSY 08h", "TASK SET FULL 28h", "ACA ACTIVE 30h"
+-- RULES 12.3
 pub data EntryStatus : ℕ → Type 0 where
   check-condition : EntryStatus 0x02
   busy : EntryStatus 0x08
   task-set-full : EntryStatus 0x28
   aca-active : EntryStatus 0x30
 
--- "8 | function rejected"
+-- RULES 12.4: answer 8
 pub data RejectedBy (s : State) : Event → Type 0 where
-  -- "Unknown function: 8."
+  -- RULES 7.10
   unknown-function : {n : ℕ} → RejectedBy s (Management n Unknown)
-  -- "CLEAR ACA: .. from the faulted nexus the ACA task ends and ACA goes; from another, 8 (house)."
+  -- RULES 7.4
   not-faulted : {n f : ℕ} → s .header .aca ≡ Faulted f → (n ≡ f → ⊥) → RejectedBy s (Management n ClearAca)

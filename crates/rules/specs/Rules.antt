@@ -1,4 +1,4 @@
--- What the rules decide about each event: document 01, "Entry of a command, checks in order" and "Ends, ACA and aborts".
+-- RULES 5 to 9: what the rules decide about each event.
 --
 --   sense k c q              := a sense: key, code, qualifier
 --   reporting n o            := the notice that the bit o of nexus n is reported, if it is one
@@ -30,44 +30,43 @@ use Rattle.rules.specs.Tasks.{places, nexuses, isAca, isEnabled, acaTask
 use Rattle.rules.specs.Bits.{top, senseFor}
 use Rattle.rules.specs.Rulings.{State, isClear, pendingOf, turn, ruled, answerOf, reportOf}
 
--- tasks end by a sweep, and nothing else changes
+-- RULES 4.3: tasks end by a sweep, and nothing else changes
 abbrev pub sweeping : Header → Sweep → Change
 sweeping h w = record { sweep = w; joins = Joins.NoTask; header = h; notice = Notice.Quiet }
 
--- "sense (key, code, qualifier)" ("Answer numbers")
+-- RULES 5.1: a sense
 abbrev pub sense : ℕ → ℕ → ℕ → Sense
 sense k c q = record { key = k; code = c; qualifier = q }
 
--- "sense .. is 0 except under 7 with status 02h" ("Answer numbers")
+-- RULES 5.1: answer 7 with a status that is not 02h, and so without a sense
 abbrev pub endedWith : ℕ → Answer
 endedWith st = Answer.EndedAtEntry st (sense 0 0 0)
 
--- "the highest rank is reported .. and that bit is cleared"
+-- RULES 5.8: a bit that is reported, if there is one
 abbrev pub reporting : ℕ → Top → Notice
 reporting n Top.NoBit = Notice.Quiet
 reporting n (Top.Highest b) = Notice.Reported n b
 
--- Checks 1, 3 and 4 end a command with CHECK CONDITION 02h.
--- "A command ended at entry neither sets up an ACA nor applies QERR.": the header stays, and nobody ends but by the check's own sweep
+-- RULES 5.1: checks 1, 3 and 4 end a command with 02h. The header stays, and nobody ends but by the check's own sweep.
 abbrev pub checkCondition : Header → Entry → Sense → Sweep → Top → Ruling
 checkCondition h c se w o =
     Ruling.Changes (Answer.EndedAtEntry 0x02 se) (record { sweep = w; joins = Joins.NoTask; header = h; notice = reporting (c .nexus) o })
 
+-- RULES 5.15: a check stops the command, or lets it go on
 abbrev pub onlyIf : Bool → Ruling → Option Ruling
 onlyIf true r = some r
 onlyIf false r = none
 
--- "1. Same nexus and tag in the table (overlapped command): every task of that nexus ends with FFh; CHECK CONDITION 02h, sense Bh/4Eh/00h.
--- An ACA stays."
+-- RULES 5.2 and 5.3: check 1, overlapped command
 abbrev pub check1 : Header → Entry → Bool → Option Ruling
 check1 h c here = onlyIf here (checkCondition h c (sense 0xB 0x4E 0x00) (Sweep.NexusTasks (c .nexus)) Top.NoBit)
 
+-- RULES 5.4: for attribute ACA
 abbrev pub asksAca : Asked → Bool
 asksAca (Asked.Known a) = isAca a
 asksAca Asked.NoneOfFour = false
 
--- "2. ACA in effect. Faulted nexus: attribute ACA with no ACA task present goes on; else ACA ACTIVE 30h. Other nexus: NACA 0 gives BUSY 08h,
--- NACA 1 gives 30h (house for attribute ACA)."
+-- RULES 5.4 to 5.6: check 2, ACA in effect
 abbrev pub check2 : Allegiance → Entry → Bool → Option Ruling
 check2 Allegiance.Clear c aca = none
 check2 (Allegiance.Faulted f) c aca =
@@ -75,47 +74,48 @@ check2 (Allegiance.Faulted f) c aca =
     (onlyIf (not (asksAca (c .asked) && not aca)) (Ruling.Keeps (endedWith 0x30)))
     (some (Ruling.Keeps (endedWith (cond (c .naca) 0x30 0x08))))
 
--- "Not exempt and a pending bit set: the highest rank"
+-- RULES 5.7 to 5.9: none where the command is exempt
 abbrev pub bitToReport : Entry → Pending → Top
 bitToReport c p = cond (c .exempt) Top.NoBit (top p)
 
--- "3. Not exempt and a pending bit set: the highest rank is reported, 02h with 6h/code, and that bit is cleared."
+-- RULES 5.8 to 5.10: check 3, unit attention
 abbrev pub check3 : Header → Entry → Top → Option Ruling
 check3 h c Top.NoBit = none
 check3 h c (Top.Highest b) = some (checkCondition h c (senseFor b) Sweep.Nobody (Top.Highest b))
 
+-- RULES 5.11: none of the four, or ACA without an ACA
 abbrev pub badAttribute : Allegiance → Asked → Bool
 badAttribute a Asked.NoneOfFour = true
 badAttribute a (Asked.Known t) = isAca t && isClear a
 
--- "4. Attribute not 0, 1, 2, 4, or 4 without ACA: 02h, 5h/49h/00h (002, clause 5.9.5)."
+-- RULES 5.11: check 4, attribute
 abbrev pub check4 : Header → Entry → Option Ruling
 check4 h c = onlyIf (badAttribute (h .aca) (c .asked)) (checkCondition h c (sense 0x5 0x49 0x00) Sweep.Nobody Top.NoBit)
 
--- "5. 64 tasks: TASK SET FULL 28h."
+-- RULES 5.12 and 5.13: check 5, full
 abbrev pub check5 : Header → Option Ruling
 check5 h = onlyIf (leb places (h .count)) (Ruling.Keeps (endedWith 0x28))
 
--- check 4 has refused NoneOfFour
+-- RULES 5.14: check 4 has refused NoneOfFour
 abbrev pub attributeOf : Asked → Attribute
 attributeOf (Asked.Known a) = a
 attributeOf Asked.NoneOfFour = Attribute.Simple
 
--- "0.3 attribute 4 enters enabled" (case E); any other task enters without ACA, and its state is settled with the rest
+-- RULES 5.14: an ACA task enters enabled; any other enters without an ACA, and its state is settled with the rest
 unfoldable pub newTask : Entry → Task
 newTask c = record { nexus = c .nexus; attribute = attributeOf (c .asked); state = TaskState.Enabled; naca = c .naca; tag = c .tag }
 
--- "6. Accepted as youngest."
+-- RULES 5.14: check 6, accepted
 abbrev pub accepting : Header → Entry → Change
 accepting h c = record { sweep = Sweep.Nobody; joins = Joins.NewTask (newTask c); header = h; notice = Notice.Quiet }
 
--- the first check that rules decides
+-- RULES 5.15: the first check that rules decides
 abbrev pub firstThatRules : List (Option Ruling) → Ruling → Ruling
 firstThatRules [] r = r
 firstThatRules (none ∷ cs) r = firstThatRules cs r
 firstThatRules (some q ∷ cs) r = q
 
--- "Entry of a command, checks in order"
+-- RULES 5.15: their order
 abbrev pub checks : Header → Entry → Bool → Bool → Pending → List (Option Ruling)
 checks h c here aca p =
     check1 h c here
@@ -125,28 +125,29 @@ checks h c here aca p =
     ∷ check5 h
     ∷ []
 
+-- RULES 5.14 and 5.15: accepted where none rules
 abbrev pub byChecks : List (Option Ruling) → Header → Entry → Ruling
 byChecks cs h c = firstThatRules cs (Ruling.Changes Answer.Done (accepting h c))
 
 unfoldable pub enter : Header → Entry → Bool → Bool → Pending → Ruling
 enter h c here aca p = byChecks (checks h c here aca p) h c
 
--- "If TAS is 0, each other nexus that lost a task so gets bit 4."
+-- RULES 6.1
 abbrev pub toldWithoutTas : Bool → ℕ → Notice
 toldWithoutTas true n = Notice.Quiet
 toldWithoutTas false n = Notice.OthersLost n
 
--- only QERR 01b aborts tasks of another nexus
+-- RULES 6.2: only QERR 01b aborts tasks of another nexus
 abbrev pub toldByQerr : Qerr → Bool → ℕ → Notice
 toldByQerr Qerr.EndNone tas n = Notice.Quiet
 toldByQerr Qerr.EndAll tas n = toldWithoutTas tas n
 toldByQerr Qerr.EndNexus tas n = Notice.Quiet
 
--- "Then, NACA 1: ACA for that nexus. NACA 0: no new ACA, and if the task had attribute ACA the old one is cleared."
+-- RULES 6.3 and 6.4
 abbrev pub acaAfter : Task → Allegiance → Allegiance
 acaAfter t a = cond (t .naca) (Allegiance.Faulted (t .nexus)) (cond (acaTask t) Allegiance.Clear a)
 
--- "GOOD ends the task. CHECK CONDITION ends it, then QERR .. GOOD on an ACA task leaves the ACA."
+-- RULES 6.5 to 6.7: GOOD, CHECK CONDITION
 abbrev pub finish : Header → Finish → Task → Bool → Change
 finish h Finish.Good t itsTurn =
     record { sweep = Sweep.OneTask (t .nexus) (t .tag) 0x00; joins = Joins.NoTask; header = runNext h (t .attribute) itsTurn; notice = Notice.Quiet }
@@ -158,27 +159,26 @@ finish h Finish.CheckCondition t itsTurn =
       notice = toldByQerr (h .policy .qerr) (h .policy .tas) (t .nexus);
     }
 
--- answers 5 and 6: "completion: no such task", "completion: task not enabled"
+-- RULES 6.8: answers 5 and 6, else the task ends
 unfoldable pub complete : Header → Option Task → Finish → Bool → Ruling
 complete h none f itsTurn = Ruling.Keeps Answer.NoSuchTask
 complete h (some t) f itsTurn = cond (isEnabled (t .state)) (Ruling.Changes Answer.Done (finish h f t itsTurn)) (Ruling.Keeps Answer.NotEnabled)
 
--- Management and conditions.
--- "ends all tasks with FFh, clears ACA and run"
+-- RULES 7.1: a reset, with its notice
 abbrev pub resetting : Header → Notice → Change
 resetting h k = record { sweep = Sweep.AllTasks; joins = Joins.NoTask; header = withAca (withRun h 0) Allegiance.Clear; notice = k }
 
--- "CLEAR ACA: without ACA done, no change; from the faulted nexus the ACA task ends and ACA goes; from another, 8 (house)."
+-- RULES 7.2 to 7.4: CLEAR ACA
 abbrev pub clearing : Header → ℕ → Allegiance → Ruling
 clearing h n Allegiance.Clear = Ruling.Keeps Answer.Done
 clearing h n (Allegiance.Faulted f) = cond (eqb n f) (Ruling.Changes Answer.Done (sweeping (withAca h Allegiance.Clear) Sweep.AcaTask)) (Ruling.Keeps Answer.Rejected)
 
+-- RULES 7.5: CLEAR TASK SET
 abbrev pub clearingSet : Header → ℕ → Change
 clearingSet h n =
     record { sweep = Sweep.ClearedBy n (h .policy); joins = Joins.NoTask; header = h; notice = toldWithoutTas (h .policy .tas) n }
 
--- "ABORT TASK ends that task if present; absent is still done. ABORT TASK SET ends that nexus's tasks and no other (000, 7.3); ACA stays.
--- CLEAR TASK SET ends all; ACA stays. .. Unknown function: 8."
+-- RULES 7.2 to 7.10: every function
 unfoldable pub manage : Header → ℕ → Function → Ruling
 manage h n (Function.AbortTask g) = Ruling.Changes Answer.Done (sweeping h (Sweep.OneTask n g 0xFF))
 manage h n Function.AbortTaskSet = Ruling.Changes Answer.Done (sweeping h (Sweep.NexusTasks n))
@@ -187,21 +187,22 @@ manage h n Function.ClearAca = clearing h n (h .aca)
 manage h n Function.LogicalUnitReset = Ruling.Changes Answer.Done (resetting h Notice.UnitWasReset)
 manage h n Function.Unknown = Ruling.Keeps Answer.Rejected
 
--- "clears ACA if it was faulted"
+-- RULES 8.1: an ACA of the nexus that is lost goes
 abbrev pub acaWithout : ℕ → Allegiance → Allegiance
 acaWithout n Allegiance.Clear = Allegiance.Clear
 acaWithout n (Allegiance.Faulted f) = cond (eqb n f) Allegiance.Clear (Allegiance.Faulted f)
 
--- "Nexus loss ends that nexus's tasks with FFh, clears ACA if it was faulted, gives it bit 3 and removes its bit 4."
+-- RULES 8.1: nexus loss
 abbrev pub losing : Header → ℕ → Change
 losing h n = record { sweep = Sweep.NexusTasks n; joins = Joins.NoTask; header = withAca h (acaWithout n (h .aca)); notice = Notice.NexusLost n }
 
--- "Policy survives all."
+-- RULES 8.1 to 8.3: every condition
 unfoldable pub happen : Header → Happening → Ruling
 happen h Happening.PowerOn = Ruling.Changes Answer.Done (resetting h Notice.PowerCameOn)
 happen h Happening.HardReset = Ruling.Changes Answer.Done (resetting h Notice.HardWasReset)
 happen h (Happening.NexusLoss n) = Ruling.Changes Answer.Done (losing h n)
 
+-- RULES 9.1
 abbrev pub nexusOf : Event → ℕ
 nexusOf (Event.Command c) = c .nexus
 nexusOf (Event.Completion n g f) = n
@@ -210,6 +211,7 @@ nexusOf (Event.Condition Happening.PowerOn) = 0
 nexusOf (Event.Condition Happening.HardReset) = 0
 nexusOf (Event.Condition (Happening.NexusLoss n)) = n
 
+-- RULES 9.2: all is asked of the state before the event
 unfoldable pub ruleFor : State → Event → Ruling
 ruleFor s (Event.Command c) =
     enter (s .header) c (any (same (c .nexus) (c .tag)) (s .tasks)) (any acaTask (s .tasks)) (pendingOf s (c .nexus))
@@ -217,10 +219,11 @@ ruleFor s (Event.Completion n g f) = complete (s .header) (first (same n g) (s .
 ruleFor s (Event.Management n f) = manage (s .header) n f
 ruleFor s (Event.Condition c) = happen (s .header) c
 
--- answer 4: "nexus above 7"
+-- RULES 9.3: answer 4 before all others
 unfoldable pub ruling : State → Event → Ruling
 ruling s e = cond (ltb (nexusOf e) nexuses) (ruleFor s e) (Ruling.Keeps Answer.NexusAboveSeven)
 
+-- RULES 9.4: the state afterwards, the answer, the tasks ended
 unfoldable pub step : State → Event → State
 step s e = ruled s (ruling s e)
 

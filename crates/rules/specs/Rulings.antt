@@ -1,5 +1,4 @@
--- The state of the set, and what a ruling means for it: who ends and with which status, who joins, who is told, and the report.
--- Document 01, "Bytes" and "Ends, ACA and aborts".
+-- RULES 4: the state of the set, and what a ruling means for it: who ends and with which status, who joins, who is told, and the report.
 --
 --   State                := header, the pending bits of nexus 0 to 7, the tasks from oldest to youngest
 --   isClear a, pendingOf s n  := no ACA is in effect; the pending bits of nexus n
@@ -24,22 +23,26 @@ use Rattle.rules.specs.Types.{Task, Policy, Qerr, Allegiance, Header, Pe
 use Rattle.rules.specs.Tasks.{nexuses, acaTask, ofNexus, same, restate, whoseTurn, turnOf}
 use Rattle.rules.specs.Bits.{noPending, without, afterPowerOn, afterHardReset, afterUnitReset, afterNexusLoss, afterCleared}
 
+-- RULES 4.1
 pub record State : Type 0 where
   pub header : Header
   pub pending : List Pending
   pub tasks : List Task
 
+-- RULES 1.10: no ACA is in effect
 abbrev pub isClear : Allegiance → Bool
 isClear Allegiance.Clear = true
 isClear (Allegiance.Faulted n) = false
 
+-- RULES 4.1: the pending bits of one nexus
 abbrev pub pendingOf : State → ℕ → Pending
 pendingOf s n = getD (s .pending) n noPending
 
+-- RULES 2.10 to 2.12: the turn, of a state
 abbrev pub turn : State → Turn
 turn s = turnOf (whoseTurn (s .header .aca) (s .header .run) (s .tasks))
 
--- "A fresh table equals the state after power on."
+-- RULES 4.2
 unfoldable pub fresh : Policy → State
 fresh p =
     record {
@@ -48,12 +51,12 @@ fresh p =
       tasks = [];
     }
 
--- Who ends.
+-- RULES 4.3: who ends
 abbrev pub endIf : Bool → ℕ → Fate
 endIf true st = Fate.Ends st
 endIf false st = Fate.Stays
 
--- one for which there is no fate stays
+-- RULES 4.3: those that stay, and those that end, in their order; one for which there is no fate stays
 module _ {A : Type 0} where
   abbrev pub kept : List Fate → List A → List A
   kept [] xs = xs
@@ -67,17 +70,17 @@ module _ {A : Type 0} where
   lost (Fate.Stays ∷ fs) (x ∷ xs) = lost fs xs
   lost (Fate.Ends st ∷ fs) (x ∷ xs) = x ∷ lost fs xs
 
--- "Aborted tasks end with FFh, with one exception: by CLEAR TASK SET or QERR, tasks of a nexus other than the causing one get TASK ABORTED 40h
--- if TAS is 1."
+-- RULES 4.4: FFh, or 40h
 abbrev pub abortedBy : Policy → ℕ → Task → Fate
 abortedBy p n t = Fate.Ends (cond (not (ofNexus n t) && p .tas) 0x40 0xFF)
 
--- "QERR: 00b none, 01b every other task, 11b the rest of that nexus"
+-- RULES 4.5 and 4.6: by QERR, an ACA in effect or not
 abbrev pub fateByQerr : Qerr → Policy → ℕ → Task → Fate
 fateByQerr Qerr.EndNone p n t = Fate.Stays
 fateByQerr Qerr.EndAll p n t = abortedBy p n t
 fateByQerr Qerr.EndNexus p n t = endIf (ofNexus n t) 0xFF
 
+-- RULES 4.3 to 4.5: one task, by the sweep
 abbrev pub fateOf : Sweep → Task → Fate
 fateOf Sweep.Nobody t = Fate.Stays
 fateOf (Sweep.OneTask n g st) t = endIf (same n g t) st
@@ -87,10 +90,12 @@ fateOf Sweep.AllTasks t = Fate.Ends 0xFF
 fateOf (Sweep.ClearedBy n p) t = abortedBy p n t
 fateOf (Sweep.FailedTask n g p) t = cond (same n g t) (Fate.Ends 0x02) (fateByQerr (p .qerr) p n t)
 
+-- RULES 4.3: each task of a state, by the ruling
 abbrev pub fatesOf : State → Ruling → List Fate
 fatesOf s (Ruling.Keeps a) = []
 fatesOf s (Ruling.Changes a c) = map (fateOf (c .sweep)) (s .tasks)
 
+-- RULES 4.8: who joins
 abbrev pub newcomers : Joins → List Task
 newcomers Joins.NoTask = []
 newcomers (Joins.NewTask t) = t ∷ []
@@ -99,13 +104,13 @@ abbrev pub joinsOf : Ruling → List Task
 joinsOf (Ruling.Keeps a) = []
 joinsOf (Ruling.Changes a c) = newcomers (c .joins)
 
--- Who is told.
--- "If TAS is 0, each other nexus that lost a task so gets bit 4."
+-- RULES 4.7: who is told
 abbrev pub tellLosersFrom : ℕ → ℕ → List Task → List Pending → List Pending
 tellLosersFrom i n ls [] = []
 tellLosersFrom i n ls (p ∷ ps) =
     cond (not (eqb i n) && any (ofNexus i) ls) (afterCleared p) p ∷ tellLosersFrom (suc i) n ls ps
 
+-- RULES 3.4 to 3.9 and 4.7: the pending bits by the notice
 abbrev pub noted : Notice → List Task → List Pending → List Pending
 noted Notice.Quiet ls ps = ps
 noted (Notice.Reported n b) ls ps = set ps n (without b (getD ps n noPending))
@@ -115,16 +120,17 @@ noted Notice.UnitWasReset ls ps = map afterUnitReset ps
 noted Notice.HardWasReset ls ps = map afterHardReset ps
 noted Notice.PowerCameOn ls ps = map afterPowerOn ps
 
--- What comes out.
+-- RULES 9.4: the answer
 abbrev pub answerOf : Ruling → Answer
 answerOf (Ruling.Keeps a) = a
 answerOf (Ruling.Changes a c) = a
 
--- those that stay, and the new one as the youngest, with their states brought up to date
+-- RULES 4.8: those that stay, and the new one as the youngest, with their states brought up to date
 abbrev pub tasksAfter : State → Change → List Task
 tasksAfter s c =
     restate (s .header .aca) (c .header .aca) (kept (map (fateOf (c .sweep)) (s .tasks)) (s .tasks) ++ newcomers (c .joins))
 
+-- RULES 4.8: and the task count
 abbrev pub ruled : State → Ruling → State
 ruled s (Ruling.Keeps a) = s
 ruled s (Ruling.Changes a c) =
@@ -134,17 +140,18 @@ ruled s (Ruling.Changes a c) =
       tasks = tasksAfter s c;
     }
 
+-- RULES 4.9: an ended record for each that ends, in age order
 abbrev pub endedFrom : List Fate → List Task → List Ended
 endedFrom [] ts = []
 endedFrom (f ∷ fs) [] = []
 endedFrom (Fate.Stays ∷ fs) (t ∷ ts) = endedFrom fs ts
 endedFrom (Fate.Ends st ∷ fs) (t ∷ ts) = record { nexus = t .nexus; status = st; tag = t .tag } ∷ endedFrom fs ts
 
--- "the tasks ended by this event in their former age order"
+-- RULES 4.9
 abbrev pub reportOf : State → Ruling → List Ended
 reportOf s r = endedFrom (fatesOf s r) (s .tasks)
 
--- Who is meant: no two tasks share nexus and tag.
+-- RULES 2.1: who is meant
 abbrev pub taskName : Task → Named
 taskName t = record { nexus = t .nexus; tag = t .tag }
 

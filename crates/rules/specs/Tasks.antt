@@ -1,6 +1,4 @@
--- Tasks: which are eligible, their states after an event, and whose turn it is.
--- Document 01, "Bytes" (attributes, states, Eligible), "Ends, ACA and aborts" (the states) and "Turn rule" (what a turn does to run is in
--- values/specs/Headers); 002, clause 8.6.
+-- RULES 2: which tasks are eligible, their states after an event, and whose turn it is. What a turn does to run is in values/specs/Headers.
 --
 --   places, nexuses             := 64 tasks, 8 nexuses; passed on from values/specs/Limits
 --   isHead, isPlain, isAca a    := the attribute is HEAD OF QUEUE; SIMPLE or ORDERED; ACA
@@ -23,6 +21,7 @@ pub use Rattle.values.specs.Limits.{places, nexuses}
 use Rattle.values.specs.Headers.{mostRun}
 use Rattle.rules.specs.Types.{Attribute, TaskState, Task, Allegiance, Turn}
 
+-- RULES 1.6: the attributes, by what the rules ask of them
 abbrev pub isHead : Attribute → Bool
 isHead Attribute.Simple = false
 isHead Attribute.HeadOfQueue = true
@@ -41,24 +40,28 @@ isAca Attribute.HeadOfQueue = false
 isAca Attribute.Ordered = false
 isAca Attribute.Aca = true
 
+-- RULES 1.7
 abbrev pub isEnabled : TaskState → Bool
 isEnabled TaskState.Dormant = false
 isEnabled TaskState.Enabled = true
 isEnabled TaskState.Blocked = false
 
+-- RULES 1.6: an ACA task
 abbrev pub acaTask : Task → Bool
 acaTask t = isAca (t .attribute)
 
+-- RULES 2.1: whose a task is, and who is meant by a nexus and a tag
 abbrev pub ofNexus : ℕ → Task → Bool
 ofNexus n t = eqb (t .nexus) n
 
 abbrev pub same : ℕ → ℕ → Task → Bool
 same n g t = eqb (t .nexus) n && eqb (t .tag) g
 
+-- RULES 1.8: a task in another state; the rest of it lasts
 abbrev pub withState : Task → TaskState → Task
 withState t st = record { nexus = t .nexus; attribute = t .attribute; state = st; naca = t .naca; tag = t .tag }
 
--- "HEAD OF QUEUE always; SIMPLE if no older task in the table is HEAD OF QUEUE or ORDERED; ORDERED if no older task is there." (Of an ACA task it is asked nowhere.)
+-- RULES 2.2 to 2.4 and 2.6: an older task of the second attribute holds one of the first back. Of an ACA task it is asked nowhere.
 abbrev pub holdsBack : Attribute → Attribute → Bool
 holdsBack Attribute.HeadOfQueue o = false
 holdsBack Attribute.Simple Attribute.Simple = false
@@ -68,33 +71,34 @@ holdsBack Attribute.Simple Attribute.Aca = false
 holdsBack Attribute.Ordered o = true
 holdsBack Attribute.Aca o = false
 
--- of the older tasks only the attributes count, and not their order
+-- RULES 2.2 to 2.5: of the older tasks only the attributes count, and not their order
 abbrev pub eligible : List Attribute → Attribute → Bool
 eligible older a = not (any (holdsBack a) older)
 
+-- RULES 2.7: the state by whether the task is eligible
 abbrev pub enabledIf : Bool → TaskState
 enabledIf true = TaskState.Enabled
 enabledIf false = TaskState.Dormant
 
--- from oldest to youngest
+-- RULES 2.7: from oldest to youngest
 abbrev pub settleFrom : List Attribute → List Task → List Task
 settleFrom older [] = []
 settleFrom older (t ∷ ts) =
     withState t (enabledIf (eligible older (t .attribute))) ∷ settleFrom (t .attribute ∷ older) ts
 
+-- RULES 2.8: of one task
 abbrev pub blockedIfEnabled : TaskState → TaskState
 blockedIfEnabled TaskState.Dormant = TaskState.Dormant
 blockedIfEnabled TaskState.Enabled = TaskState.Blocked
 blockedIfEnabled TaskState.Blocked = TaskState.Blocked
 
--- "When ACA begins, enabled tasks become blocked; dormant ones stay so, even if they become eligible. After any event that ends without ACA,
--- every eligible task is enabled."
+-- RULES 2.7 to 2.9: the event ends without an ACA; an ACA begins; an ACA lasts
 abbrev pub restate : Allegiance → Allegiance → List Task → List Task
 restate before Allegiance.Clear ts = settleFrom [] ts
 restate Allegiance.Clear (Allegiance.Faulted n) ts = map (λ (t : Task). withState t (blockedIfEnabled (t .state))) ts
 restate (Allegiance.Faulted m) (Allegiance.Faulted n) ts = ts
 
--- The turn rule.
+-- RULES 2.11 and 2.12: what the turn rule looks for
 abbrev pub enabledTask : Task → Bool
 enabledTask t = isEnabled (t .state)
 
@@ -104,17 +108,18 @@ enabledHead t = isHead (t .attribute) && isEnabled (t .state)
 abbrev pub enabledPlain : Task → Bool
 enabledPlain t = isPlain (t .attribute) && isEnabled (t .state)
 
--- "With ACA: the ACA task, else nothing. Without: if an enabled HEAD OF QUEUE task exists, and run is below 4 or no SIMPLE or ORDERED task
--- is enabled, the oldest such HEAD OF QUEUE task; else the oldest enabled task, else nothing."
+-- RULES 2.10 to 2.12: the turn rule
 unfoldable pub whoseTurn : Allegiance → ℕ → List Task → Option Task
 whoseTurn (Allegiance.Faulted n) run ts = first acaTask ts
 whoseTurn Allegiance.Clear run ts =
     cond (any enabledHead ts && (ltb run mostRun || not (any enabledPlain ts))) (first enabledHead ts) (first enabledTask ts)
 
+-- RULES 2.1 and 2.10 to 2.12: who is named, by nexus and tag
 abbrev pub turnOf : Option Task → Turn
 turnOf none = Turn.Nothing
 turnOf (some t) = Turn.Names (record { nexus = t .nexus; tag = t .tag })
 
+-- RULES 2.1: whether it is the task of nexus n and tag g
 abbrev pub isNamed : ℕ → ℕ → Turn → Bool
 isNamed n g Turn.Nothing = false
 isNamed n g (Turn.Names t) = eqb (t .nexus) n && eqb (t .tag) g

@@ -1,10 +1,10 @@
--- When a state is well formed (document 01, "A table is well formed if ..").
+-- RULES 10: when a state is well formed.
 --
 --   Stands ts older t younger   := t is in ts, behind the tasks older and before the tasks younger
 --   Eligible older t            := t is eligible behind those tasks
---   FitsWithoutAca older t      := what document 01 asks of a task while no ACA is in effect
---   FitsInAca f older t younger := what it asks of one in an ACA of nexus f
---   WellFormed s                := the statement, in the paper's words
+--   FitsWithoutAca older t      := what is asked of a task while no ACA is in effect
+--   FitsInAca f older t younger := what is asked of one in an ACA of nexus f
+--   WellFormed s                := the statement, clause by clause
 --   wellFormed s                := the test of it, which code can compute; that the two agree is proved (proofs/WellSays)
 use Prim.Native.Nat.{ℕ, _≤_, _<_}
 use mathlib.Core.Path.{_≡_}
@@ -18,13 +18,15 @@ use Rattle.values.specs.Headers.{mostRun}
 use Rattle.rules.specs.Tasks.{places, nexuses, isAca, same, eligible, enabledIf}
 use Rattle.rules.specs.Rulings.{State}
 
+-- RULES 4.1: a task of the table, behind the older ones and before the younger
 abbrev pub Stands : List Task → List Task → Task → List Task → Type 0
 Stands ts older t younger = ts ≡ older ++ (t ∷ younger)
 
+-- RULES 2.2 to 2.5: of such a task
 abbrev pub Eligible : List Task → Task → Type 0
 Eligible older t = eligible (map (λ (u : Task). u .attribute) older) (t .attribute) ≡ true
 
--- "without ACA: no task is blocked or has attribute ACA, and a task is enabled exactly if it is eligible, else dormant"
+-- RULES 10.1
 pub record FitsWithoutAca (older : List Task) (t : Task) : Type 0 where
   pub not-blocked : t .state ≡ Blocked → ⊥
   pub not-aca : t .attribute ≡ Aca → ⊥
@@ -32,8 +34,7 @@ pub record FitsWithoutAca (older : List Task) (t : Task) : Type 0 where
   pub enabled-only-if : t .state ≡ Enabled → Eligible older t
   pub else-dormant : (Eligible older t → ⊥) → t .state ≡ Dormant
 
--- "with ACA: at most one task has attribute ACA; it is the youngest, enabled, of the faulted nexus. Every other task is dormant or blocked;
--- a blocked one is eligible; a HEAD OF QUEUE one is blocked." Of two tasks with attribute ACA only one could be the youngest.
+-- RULES 10.2 and 10.3. Of two tasks with attribute ACA only one could be the youngest.
 pub record FitsInAca (f : ℕ) (older : List Task) (t : Task) (younger : List Task) : Type 0 where
   pub aca-youngest : t .attribute ≡ Aca → younger ≡ []
   pub aca-enabled : t .attribute ≡ Aca → t .state ≡ Enabled
@@ -42,7 +43,7 @@ pub record FitsInAca (f : ℕ) (older : List Task) (t : Task) (younger : List Ta
   pub blocked-eligible : t .state ≡ Blocked → Eligible older t
   pub head-blocked : t .attribute ≡ HeadOfQueue → t .state ≡ Blocked
 
--- "task count 0 to 64; ACA: 0 or 1 + faulted nexus; run 0 to 4", "8 nexus records"; "A task's nexus is 0 to 7."; "no two tasks share nexus and tag"
+-- RULES 10.1 to 10.6: the numbers and bounds; names; and of each task its state. Nothing more is asked.
 pub record WellFormed (s : State) : Type 0 where
   pub counted : s .header .count ≡ length (s .tasks)
   pub few : length (s .tasks) ≤ places
@@ -57,7 +58,7 @@ pub record WellFormed (s : State) : Type 0 where
   pub with-aca : (f : ℕ) → s .header .aca ≡ Faulted f → (older : List Task) (t : Task) (younger : List Task)
       → Stands (s .tasks) older t younger → FitsInAca f older t younger
 
--- The test.
+-- RULES 1.7. From here on the test.
 abbrev pub sameState : TaskState → TaskState → Bool
 sameState Dormant Dormant = true
 sameState Dormant Enabled = false
@@ -69,44 +70,50 @@ sameState Blocked Dormant = false
 sameState Blocked Enabled = false
 sameState Blocked Blocked = true
 
--- one task without ACA, by whether it is eligible
+-- RULES 10.1: one task without ACA, by whether it is eligible
 abbrev pub settledTask : Bool → Attribute → TaskState → Bool
 settledTask mayRun a st = not (isAca a) && sameState st (enabledIf mayRun)
 
--- one task in an ACA, by whether it is the youngest, eligible, of the faulted nexus
+-- RULES 10.2 and 10.3: one task in an ACA, by whether it is the youngest, eligible, of the faulted nexus
 abbrev pub heldTask : Bool → Bool → Bool → Attribute → TaskState → Bool
 heldTask youngest mayRun faulted Aca st = sameState st Enabled && youngest && faulted
 heldTask youngest mayRun faulted HeadOfQueue st = sameState st Blocked && mayRun
 heldTask youngest mayRun faulted Simple st = sameState st Dormant || (sameState st Blocked && mayRun)
 heldTask youngest mayRun faulted Ordered st = sameState st Dormant || (sameState st Blocked && mayRun)
 
--- from oldest to youngest; older has the attributes of the tasks passed
+-- RULES 10.1: from oldest to youngest; older has the attributes of the tasks passed
 abbrev pub settled : List Attribute → List Task → Bool
 settled older [] = true
 settled older (t ∷ ts) =
     settledTask (eligible older (t .attribute)) (t .attribute) (t .state) && settled (t .attribute ∷ older) ts
 
+-- RULES 10.2 and 10.3: likewise
 abbrev pub held : ℕ → List Attribute → List Task → Bool
 held f older [] = true
 held f older (t ∷ ts) =
     heldTask (isNil ts) (eligible older (t .attribute)) (eqb (t .nexus) f) (t .attribute) (t .state)
     && held f (t .attribute ∷ older) ts
 
+-- RULES 10.1 to 10.3
 abbrev pub statesFit : Allegiance → List Task → Bool
 statesFit Clear ts = settled [] ts
 statesFit (Faulted f) ts = held f [] ts
 
+-- RULES 10.4: a faulted nexus is 0 to 7
 abbrev pub faultFits : Allegiance → Bool
 faultFits Clear = true
 faultFits (Faulted f) = ltb f nexuses
 
+-- RULES 10.5
 abbrev pub distinct : List Task → Bool
 distinct [] = true
 distinct (t ∷ ts) = not (any (same (t .nexus) (t .tag)) ts) && distinct ts
 
+-- RULES 10.4: a task's nexus is not 0 to 7
 abbrev pub tooHigh : Task → Bool
 tooHigh t = leb nexuses (t .nexus)
 
+-- RULES 10.1 to 10.6: the whole test
 unfoldable pub wellFormed : State → Bool
 wellFormed s =
     leb (s .header .run) mostRun && leb (length (s .tasks)) places && eqb (s .header .count) (length (s .tasks))

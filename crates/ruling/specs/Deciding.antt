@@ -1,3 +1,4 @@
+-- Believed by nobody: code's own way of walking, proved equal to what the rules say (docs/TRUST.md).
 -- The ruling on an event, from what searches over the table's bytes find.
 --
 --   hasAca aca ts              := there is an ACA task; looked for only while an ACA is in effect

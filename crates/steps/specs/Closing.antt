@@ -1,3 +1,4 @@
+-- Believed by nobody: code's own way of walking, proved equal to what the rules say (docs/TRUST.md).
 -- What the loop that closes up promises of the records that stay; what stands between them and the rest is cleared by the next step.
 use Prim.Native.Nat.{ℕ, _+_, _*_, _≤_}
 use mathlib.Core.Path.{_≡_}

@@ -1,3 +1,4 @@
+-- Believed by nobody: code's own way of walking, proved equal to what the rules say (docs/TRUST.md).
 -- The steps that carry a ruling out, each as what it makes of the table's bytes.
 --
 --   settledBytes n b     := the states of the first n tasks settled

@@ -1,12 +1,12 @@
--- How many there are at most (document 01, "Bytes"); src/lib.rt has the same numbers for code.
+-- RULES 1.1 and 1.5: how many there are at most; src/lib.rt has the same numbers for code.
 --
---   places, nexuses  := 64 tasks, 8 nexuses
+--   nexuses, places  := 8 nexuses, 64 tasks
 use Prim.Native.Nat.{ℕ}
 
--- "64 task records"
-abbrev pub places : ℕ
-places = 64
-
--- "8 nexus records in order 0 to 7"
+-- RULES 1.1: nexuses
 abbrev pub nexuses : ℕ
 nexuses = 8
+
+-- RULES 1.5: tasks
+abbrev pub places : ℕ
+places = 64

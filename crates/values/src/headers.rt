@@ -1,4 +1,4 @@
-// A header with a part of it changed, and run after a turn (document 01, "Turn rule").
+// RULES 1.13 to 1.16: a header with a part of it changed, and run after a turn.
 use crate::Allegiance;
 use crate::Attribute;
 use crate::Header;
@@ -53,7 +53,7 @@ impl Header {
         self.lasting_with(self.count, aca, run)
     }
 
-    // "An accepted completion of the named task sets run .. Other completions .. leave it."
+    // RULES 1.15 and 1.16: a completion of the task whose turn it is, and any other.
     pub fn run_next(self, a: Attribute, named: bool) -> Header
         ensures { λ r. ⌜ r ≡ runNext self a named ⌝ }
     {
@@ -61,7 +61,7 @@ impl Header {
     }
 }
 
-// "the smaller of run + 1 and 4"
+// RULES 1.15: one more, and at most 4.
 fn run_up(run: u8) -> u8
     ensures { λ r. ⌜ r ≡ min (run + 1) 4 ⌝ }
 {

@@ -1,8 +1,8 @@
-// The lower layer's values: tasks, header, events, unit attentions, answers, rulings. No byte of the table is known here. They are declared at the root,
-// under their short paths: the prover spells out each type's path wherever a variable of it is, which was up to a tenth of a crate's check.
+// RULES 1.4: the lower layer's values: tasks, header, events, unit attentions, answers, rulings. No byte of the table is known here. They are declared at the
+// root, under their short paths: the prover spells out each type's path wherever a variable of it is, which was up to a tenth of a crate's check.
 mod headers;
 
-// ---- How many there are at most (document 01, "Bytes"); specs/Limits.antt has the same numbers for contracts and laws.
+// ---- RULES 1.1 and 1.5: how many there are at most; specs/Limits.antt has the same numbers for contracts and laws.
 
 pub const NEXUSES: usize = 8;
 
@@ -13,13 +13,14 @@ pub const NEXUS_BOUND: u8 = 8;
 
 pub const MOST_TASKS: u8 = 64;
 
-// ---- A task in the set (document 01, "Bytes").
+// ---- RULES 1.6 to 1.8: a task in the set.
 
-// Document 01 gives tags two bytes; this is the one place that says so to the rules.
+// RULES 1.8: a tag has two bytes; this is the one place that says so to the rules.
 pub type Tag = u16;
 
 pub const TAG_MAX: Tag = u16::MAX;
 
+// RULES 1.6
 pub enum Attribute {
     Simple,
     HeadOfQueue,
@@ -27,12 +28,14 @@ pub enum Attribute {
     Aca,
 }
 
+// RULES 1.7
 pub enum TaskState {
     Dormant,
     Enabled,
     Blocked,
 }
 
+// RULES 1.8
 pub struct Task {
     pub nexus: u8,
     pub attribute: Attribute,
@@ -41,26 +44,28 @@ pub struct Task {
     pub tag: Tag,
 }
 
-// ---- The header's state: policy, task count, ACA and run (document 01, "Bytes").
+// ---- RULES 1.9 and 1.10: the header's state: policy, task count, ACA and run.
 
-// QERR 00b, 01b and 11b.
+// RULES 1.9: QERR 00b, 01b and 11b.
 pub enum Qerr {
     EndNone,
     EndAll,
     EndNexus,
 }
 
+// RULES 1.9
 pub struct Policy {
     pub qerr: Qerr,
     pub tas: bool,
 }
 
-// Whether an auto contingent allegiance is in effect, and for which nexus.
+// RULES 1.10: whether an auto contingent allegiance is in effect, and for which nexus.
 pub enum Allegiance {
     Clear,
     Faulted(u8),
 }
 
+// RULES 1.10
 pub struct Header {
     pub policy: Policy,
     pub count: u8,
@@ -68,15 +73,15 @@ pub struct Header {
     pub run: u8,
 }
 
-// ---- What can happen to the set (document 01, "Event records").
+// ---- RULES 1.11: what can happen to the set.
 
-// The attribute that a COMMAND asks for: one of the four, or a byte that is none of them.
+// RULES 16.1: the attribute that a COMMAND asks for: one of the four, or a byte that is none of them.
 pub enum Asked {
     Known(Attribute),
     NoneOfFour,
 }
 
-// A COMMAND's fields.
+// RULES 1.2 and 16.1: a COMMAND's fields; of its command block NACA and exempt, and no more.
 pub struct Entry {
     pub nexus: u8,
     pub asked: Asked,
@@ -85,13 +90,13 @@ pub struct Entry {
     pub tag: Tag,
 }
 
-// The status that a COMPLETION brings.
+// RULES 16.2: the status that a COMPLETION brings.
 pub enum Finish {
     Good,
     CheckCondition,
 }
 
-// What a MANAGEMENT asks for; ABORT TASK has its own tag.
+// RULES 16.3: what a MANAGEMENT asks for; ABORT TASK has its own tag.
 pub enum Function {
     AbortTask(Tag),
     AbortTaskSet,
@@ -101,14 +106,14 @@ pub enum Function {
     Unknown,
 }
 
-// What a CONDITION reports.
+// RULES 16.4: what a CONDITION reports.
 pub enum Happening {
     PowerOn,
     HardReset,
     NexusLoss(u8),
 }
 
-// The first number of COMPLETION and MANAGEMENT is the nexus.
+// RULES 1.11. The first number of COMPLETION and MANAGEMENT is the nexus.
 pub enum Event {
     Command(Entry),
     Completion(u8, Tag, Finish),
@@ -116,8 +121,9 @@ pub enum Event {
     Condition(Happening),
 }
 
-// ---- The unit attentions that wait for a nexus (document 01, "Bytes", pending bits).
+// ---- RULES 1.12: the unit attentions that wait for a nexus.
 
+// RULES 1.12 and 3.1: several can be set at once.
 pub struct Pending {
     pub power: bool,
     pub hard: bool,
@@ -126,7 +132,7 @@ pub struct Pending {
     pub cleared: bool,
 }
 
-// One of the five, highest rank first.
+// RULES 3.1: one of the five, highest rank first.
 pub enum Bit {
     PowerBit,
     HardBit,
@@ -135,21 +141,22 @@ pub enum Bit {
     ClearedBit,
 }
 
-// The bit of highest rank, where one is set.
+// RULES 3.1: the bit of highest rank, where one is set.
 pub enum Top {
     NoBit,
     Highest(Bit),
 }
 
-// ---- What a caller is told (document 01, "Answer numbers").
+// ---- RULES 18: what a caller is told.
 
+// RULES 18.2
 pub struct Sense {
     pub key: u8,
     pub code: u8,
     pub qualifier: u8,
 }
 
-// Answers 0 to 9, in the order of their numbers. A bad table, report, event or policy is the byte layer's to find.
+// RULES 18.1: answers 0 to 9, in the order of their numbers. A bad table, report, event or policy is the byte layer's to find.
 pub enum Answer {
     Done,
     BadTable,
@@ -163,22 +170,22 @@ pub enum Answer {
     BadPolicy,
 }
 
-// ---- What the rules decide about an event: plain values, which the byte layer carries out.
+// ---- RULES 4 and 9.4: what the rules decide about an event: plain values, which the byte layer carries out.
 
-// What an event does to one task that is there.
+// RULES 4.3: what an event does to one task that is there.
 pub enum Fate {
     Stays,
     Ends(u8),
 }
 
-// A task that ended, with the status to send for it, or FFh for none.
+// RULES 4.4 and 4.9: a task that ended, with the status to send for it, or FFh for none.
 pub struct Ended {
     pub nexus: u8,
     pub status: u8,
     pub tag: Tag,
 }
 
-// Which tasks an event ends, and with which status.
+// RULES 4.3 to 4.6: which tasks an event ends, and with which status.
 pub enum Sweep {
     Nobody,
     // the task of this nexus and tag, with this status
@@ -195,7 +202,7 @@ pub enum Sweep {
     FailedTask(u8, Tag, Policy),
 }
 
-// What becomes of the pending bits.
+// RULES 3.4 to 3.9 and 4.7: what becomes of the pending bits.
 pub enum Notice {
     Quiet,
     // this bit of this nexus was reported
@@ -209,11 +216,13 @@ pub enum Notice {
     PowerCameOn,
 }
 
+// RULES 4.8: the task that joins, if one does.
 pub enum Joins {
     NoTask,
     NewTask(Task),
 }
 
+// RULES 4.8
 pub struct Change {
     pub sweep: Sweep,
     pub joins: Joins,
@@ -221,32 +230,33 @@ pub struct Change {
     pub notice: Notice,
 }
 
-// Either the set stays as it is, or it changes.
+// RULES 9.4: either the set stays as it is, or it changes.
 pub enum Ruling {
     Keeps(Answer),
     Changes(Answer, Change),
 }
 
-// Whom the turn rule names.
+// RULES 2.1 and 2.10 to 2.12: whom the turn rule names.
 pub struct Named {
     pub nexus: u8,
     pub tag: Tag,
 }
 
+// RULES 2.10 to 2.12
 pub enum Turn {
     Nothing,
     Names(Named),
 }
 
-// ---- What the operations say; document 01's numbers for each answer are in operations/specs/AnswerNumbers.
+// ---- RULES 19: what the operations say; the numbers of each answer are in operations/specs/AnswerNumbers.
 
-// The answer to an event, and the ended count.
+// RULES 19.2: the answer to an event, and the ended count.
 pub struct Applied {
     pub answer: Answer,
     pub ended: u8,
 }
 
-// Whose turn it is.
+// RULES 19.4: whose turn it is.
 pub struct Naming {
     pub answer: Answer,
     pub turn: Turn,

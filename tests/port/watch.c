@@ -1,0 +1,111 @@
+#include "watch.h"
+
+#include <stdarg.h>
+#include <stdio.h>
+#include <stdlib.h>
+#include <string.h>
+
+static unsigned checks;
+
+static void write_down(struct watch *watch, const char *format, ...) __attribute__((format(printf, 2, 3)));
+
+static void write_down(struct watch *watch, const char *format, ...)
+{
+	va_list arguments;
+	va_start(arguments, format);
+	int length = vsnprintf(watch->asked + watch->used, sizeof watch->asked - watch->used, format, arguments);
+	va_end(arguments);
+	watch->used += (size_t)length;
+	if (length < 0 || watch->used >= sizeof watch->asked) {
+		fprintf(stderr, "port: the box asks for more between two checks than is written down\n");
+		exit(EXIT_FAILURE);
+	}
+}
+
+void *block_of(uint8_t nexus, dedakhumi_tag tag)
+{
+	static char blocks[DEDAKHUMI_NEXUSES][256];
+	return &blocks[nexus % DEDAKHUMI_NEXUSES][tag % 256];
+}
+
+static void send(void *context, uint8_t nexus, dedakhumi_tag tag, uint8_t status, struct sense sense)
+{
+	write_down(context, "send %u.%u %02Xh", nexus, tag, status);
+	if (sense.key != 0 || sense.code != 0 || sense.qualifier != 0)
+		write_down(context, " %Xh/%02Xh/%02Xh", sense.key, sense.code, sense.qualifier);
+	write_down(context, "; ");
+}
+
+static void run(void *context, uint8_t nexus, dedakhumi_tag tag, void *request)
+{
+	bool own = request == block_of(nexus, tag);
+	write_down(context, "run %u.%u%s; ", nexus, tag, own ? "" : " with another's request");
+}
+
+static void let_go(void *context, uint8_t nexus, dedakhumi_tag tag, void *request, bool at_disk)
+{
+	struct watch *watch = context;
+	bool own = request == block_of(nexus, tag);
+	watch->gone++;
+	write_down(watch, "let go %u.%u%s%s; ", nexus, tag, at_disk ? " at the disk" : "", own ? "" : " with another's request");
+}
+
+static void applied(void *context, const struct dedakhumi_event *event, const struct dedakhumi_answer *answer)
+{
+	struct watch *watch = context;
+	(void)event;
+	watch->applied++;
+	watch->answered = answer->answer;
+}
+
+static void note(void *context, enum box_note note)
+{
+	static const char *const words[] = {[BOX_GIVES_AGAIN] = "gives again", [BOX_NAMING_REFUSED] = "naming refused",
+		[BOX_STARTED_OVER] = "started over", [BOX_FAULT] = "fault"};
+	write_down(context, "%s; ", words[note]);
+}
+
+uint8_t watch_start(struct watch *watch, uint8_t policy)
+{
+	static const struct box_calls calls = {.send = send, .run = run, .let_go = let_go, .applied = applied, .note = note};
+	return box_start(&watch->box, policy, &calls, watch);
+}
+
+static void forget(struct watch *watch)
+{
+	watch->asked[0] = '\0';
+	watch->used = 0;
+	watch->applied = 0;
+}
+
+void check_number(struct watch *watch, const char *what, unsigned got, unsigned expected)
+{
+	checks++;
+	if (got == expected)
+		return;
+	fprintf(stderr, "port: %s: %u instead of %u; the box asked for: %s\n", what, got, expected, watch->asked);
+	exit(EXIT_FAILURE);
+}
+
+void check_asked(struct watch *watch, const char *what, const char *asked)
+{
+	checks++;
+	if (strcmp(watch->asked, asked) != 0) {
+		fprintf(stderr, "port: %s: the box asked for: %s\ninstead of: %s\n", what, watch->asked, asked);
+		exit(EXIT_FAILURE);
+	}
+	forget(watch);
+}
+
+void check_answer(struct watch *watch, const char *what, struct dedakhumi_answer answer, uint8_t number, const char *asked)
+{
+	check_number(watch, what, answer.answer, number);
+	check_number(watch, what, watch->applied, 1);
+	check_number(watch, what, watch->answered, number);
+	check_asked(watch, what, asked);
+}
+
+unsigned checks_made(void)
+{
+	return checks;
+}
