@@ -98,16 +98,17 @@ build/tests/$(2)-sanitized: $(3) $(ARCHIVE) $(HEADER) $(wildcard $(4))
 	$$(COMPILE_C) $(SANITIZE) $(5) $$(filter %.c,$$^) $(ARCHIVE) -o $$@
 endef
 $(eval $(call program,bin,night,driver/port/*.c driver/night/*.c text/*.c,driver/*/*.h text/*.h,-Idriver/port -Itext))
+$(eval $(call program,bin,try,try/*.c text/*.c,try/*.h text/*.h,-Itext))
 $(eval $(call program,tests,port,driver/port/*.c tests/port/*.c,driver/port/*.h tests/port/*.h,-Idriver/port))
 $(eval $(call program,tests,header,tests/header/helpers.c,,))
 $(eval $(call program,tests,cost,tests/cost/*.c,tests/cost/*.h,))
 $(eval $(call program,tests,compare,tests/compare/*.c second/*.c,tests/compare/*.h second/*.h,-Isecond))
 $(eval $(call program,tests,pages,tests/pages/*.c,tests/pages/*.h second/layout.h,-Isecond))
-$(eval $(call program,tests,outside,tests/outside/*.c,tests/outside/*.h second/layout.h,-Isecond))
+$(eval $(call program,tests,outside,tests/outside/*.c text/*.c,tests/outside/*.h text/*.h,-Itext))
 $(eval $(call program,tests,replay,tests/cases/*.c,tests/cases/*.h,))
 
 # One after the other, the quick ones first. The last line is that of `rt ci`: N passed, 0 failed.
-TESTS := need header crates names promises opened clauses install cost port driver outside pages cases compare
+TESTS := need header crates names promises opened clauses install cost port driver outside try pages cases compare
 .PHONY: test
 test:
 	@for test in $(TESTS); do \
@@ -172,6 +173,9 @@ test-outside: build/tests/outside $(SANITIZED:%=build/tests/outside%) tests/outs
 	$(RUN) build/tests/outside $(filter %.txt,$^)
 	$(SANITIZED:%=build/tests/outside% $(filter %.txt,$^))
 	$(call faults,outside)
+
+test-try: build/bin/try $(SANITIZED:%=build/tests/try%) tests/try/run
+	tests/try/run $(filter build/%,$^)
 
 # The cases over the archive, and what the program that plays them does with input that they don't have.
 test-cases: build/tests/replay $(SANITIZED:%=build/tests/replay%)

@@ -53,14 +53,6 @@ const char *condition_name(uint8_t condition)
 	return name_in(names, condition);
 }
 
-const char *attention_name(uint8_t bit)
-{
-	static const struct name names[] = {{DEDAKHUMI_PENDING_POWER_ON, "29h/00h"}, {DEDAKHUMI_PENDING_HARD_RESET, "29h/02h"},
-		{DEDAKHUMI_PENDING_LOGICAL_UNIT_RESET, "29h/03h"}, {DEDAKHUMI_PENDING_NEXUS_LOSS, "29h/07h"},
-		{DEDAKHUMI_PENDING_COMMANDS_CLEARED, "2Fh/00h"}, {0, NULL}};
-	return name_in(names, bit);
-}
-
 static void add_command(struct text *text, const struct dedakhumi_fields *command)
 {
 	text_add(text, "%u.%u %s", command->nexus, command->tag, attribute_name(command->first));

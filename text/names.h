@@ -22,6 +22,9 @@ const char *function_name(uint8_t function);
 const char *condition_name(uint8_t condition);
 /* The code and qualifier of a pending bit's unit attention. */
 const char *attention_name(uint8_t bit);
+/* What has happened, in words: of a pending bit, and of the sense of a command that ended at entry. */
+const char *attention_meaning(uint8_t bit);
+const char *sense_meaning(uint8_t code, uint8_t qualifier);
 /* The event's fields in words. */
 void add_event(struct text *text, const struct dedakhumi_event *event);
 

@@ -4,8 +4,11 @@
 
 #include <stddef.h>
 
+/* Room for a line about each of a full table's tasks. */
+enum { TEXT_ROOM = 4096 };
+
 struct text {
-	char bytes[320];
+	char bytes[TEXT_ROOM];
 	size_t used;
 };
 

@@ -3,6 +3,7 @@
 #include <stdlib.h>
 #include <string.h>
 
+#include "lines.h"
 #include "outside.h"
 
 struct reading {
@@ -35,49 +36,39 @@ static void forget_said(struct reading *reading)
 }
 
 /* A start is no event: it has no answer of six numbers, so that one is taken as said. */
-static bool take_start(struct reading *reading, const char *line)
+static void take_start(struct reading *reading, uint8_t policy)
 {
-	unsigned policy;
-	int used = 0;
-	if (sscanf(line, "start %2x%n", &policy, &used) != 1 || line[used] != '\0')
-		return false;
+	struct box *box = &reading->box;
 	check_all_said(reading);
-	memset(&reading->box, 0, sizeof reading->box);
-	if (dedakhumi_start(reading->box.table, sizeof reading->box.table, (uint8_t)policy) != 0)
-		fail(reading, "the start was refused", line);
+	memset(box, 0, sizeof *box);
+	if (dedakhumi_start(box->table, sizeof box->table, policy) != DEDAKHUMI_DONE)
+		fail(reading, "the start was refused", "bad policy");
 	forget_said(reading);
 	reading->said[ANSWER] = reading->said[STATES] = reading->said[NAMED] = true;
 	reading->started = true;
 	reading->sequences++;
-	return true;
 }
 
-static bool take_event(struct reading *reading, const char *line)
+static void take_event(struct reading *reading, const struct line *line)
 {
-	uint8_t event[EVENT_LENGTH];
 	struct box *box = &reading->box;
-	if (!event_from(line, event))
-		return false;
-	if (!reading->started)
-		fail(reading, "an event before any start", line);
 	check_all_said(reading);
 	forget_said(reading);
-	box->answer = dedakhumi_apply(box->table, sizeof box->table, box->report, sizeof box->report, event, sizeof event);
-	return true;
+	box->answer = dedakhumi_apply(box->table, sizeof box->table, box->report, sizeof box->report, line->record, line->length);
 }
 
 static void compare(struct reading *reading, enum subject subject, const char *expected)
 {
-	char shown[TEXT_LENGTH];
-	show(subject, &reading->box, shown);
-	if (strcmp(shown, expected) != 0) {
+	struct text shown = {.used = 0};
+	show(subject, &reading->box, &shown);
+	if (strcmp(shown.bytes, expected) != 0) {
 		fprintf(stderr, "%s:%u: %s: the file says \"%s\", the box shows \"%s\"\n", reading->file, reading->line,
-			subject_words[subject], expected, shown);
+			subject_words[subject], expected, shown.bytes);
 		exit(1);
 	}
 	reading->said[subject] = true;
 	if (subject == STATES)
-		reading->states += task_count(&reading->box);
+		reading->states += (unsigned)dedakhumi_task_count(reading->box.table);
 }
 
 static bool take_expectation(struct reading *reading, const char *line)
@@ -85,8 +76,6 @@ static bool take_expectation(struct reading *reading, const char *line)
 	for (enum subject subject = ANSWER; subject < SUBJECTS; subject++) {
 		size_t length = strlen(subject_words[subject]);
 		if (strncmp(line, subject_words[subject], length) == 0 && line[length] == ' ') {
-			if (!reading->started)
-				fail(reading, "an expectation before any start", line);
 			compare(reading, subject, line + length + 1);
 			return true;
 		}
@@ -94,34 +83,51 @@ static bool take_expectation(struct reading *reading, const char *line)
 	return false;
 }
 
-static void take_line(struct reading *reading, char *line)
+static void take_line(struct reading *reading, const struct line *line)
 {
-	line[strcspn(line, "\r\n")] = '\0';
-	line += strspn(line, " \t");
-	if (line[0] == '\0' || line[0] == '#')
-		return;
-	if (!take_start(reading, line) && !take_event(reading, line) && !take_expectation(reading, line))
-		fail(reading, "neither a start nor an event nor an expectation", line);
+	if (line->kind == LINE_UNCLEAR)
+		fail(reading, "neither an expectation nor an event", line->wrong.bytes);
+	if (line->kind == LINE_START)
+		take_start(reading, line->policy);
+	if (line->kind == LINE_RECORD)
+		take_event(reading, line);
 }
 
-static void read_file(struct reading *reading, const char *file)
+static void take_input(struct reading *reading, const struct input_line *input)
 {
-	char line[TEXT_LENGTH];
-	FILE *input = fopen(file, "r");
+	struct line line;
+	parse_line(&line, input);
+	if (!reading->started && line.kind != LINE_START && line.kind != LINE_NOTHING)
+		fail(reading, "something before any start", input->bytes);
+	if (!take_expectation(reading, input->bytes + strspn(input->bytes, " \t")))
+		take_line(reading, &line);
+}
+
+static void read_lines(struct reading *reading, FILE *file)
+{
+	struct input_line input;
+	while (read_input(file, &input)) {
+		reading->line++;
+		take_input(reading, &input);
+	}
+	if (ferror(file))
+		fail(reading, "can't be read", reading->file);
+}
+
+static void read_file(struct reading *reading, const char *name)
+{
+	FILE *file = fopen(name, "r");
 	unsigned before = reading->sequences;
-	reading->file = file;
+	reading->file = name;
 	reading->line = 0;
 	reading->started = false;
-	if (input == NULL)
-		fail(reading, "can't be opened", file);
-	while (fgets(line, sizeof line, input) != NULL) {
-		reading->line++;
-		take_line(reading, line);
-	}
+	if (file == NULL)
+		fail(reading, "can't be opened", name);
+	read_lines(reading, file);
 	check_all_said(reading);
 	if (reading->sequences == before)
-		fail(reading, "no sequence in", file);
-	fclose(input);
+		fail(reading, "no sequence in", name);
+	fclose(file);
 }
 
 int main(int argc, char **argv)

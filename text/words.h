@@ -1,0 +1,34 @@
+/* The words of a line, and what numbers they are. A word ends at a blank; a # and what is behind it is a comment. */
+#ifndef WORDS_H
+#define WORDS_H
+
+#include <stdbool.h>
+#include <stddef.h>
+#include <stdint.h>
+
+#include "text.h"
+
+struct word {
+	const char *start;
+	size_t length;
+};
+
+/* The next word from `at` on, which is put behind it; of length 0 if there is none. */
+struct word next_word(const char **at);
+/* Upper and lower case are the same. */
+bool same_word(struct word one, struct word other);
+/* Goes past the phrase's words before its first number, if it has any and they stand there, and else stays. */
+bool take_phrase(const char **at, const char *phrase);
+
+/* False if it is something else than decimal digits, or above the limit. */
+bool read_decimal(struct word word, uint64_t limit, uint64_t *number);
+bool is_hex(struct word word);
+/* How many bytes the word has with two hex digits each; 0 if it is no whole bytes, or if there is no room for them. */
+size_t read_hex(struct word word, uint8_t *bytes, size_t room);
+
+/* No more than `limit` bytes of it, and control characters by their number: what is shown stays a line. */
+enum { SHOWN_LIMIT = 60 };
+void add_shown(struct text *text, const char *bytes, size_t length, size_t limit);
+void add_word(struct text *text, struct word word);
+
+#endif

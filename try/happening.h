@@ -1,0 +1,25 @@
+/* What a line has done to the box, and its words. */
+#ifndef HAPPENING_H
+#define HAPPENING_H
+
+#include "dedakhumi.h"
+
+struct happening {
+	/* both as they are after it */
+	const uint8_t *table, *report;
+	/* what the record says, if it is an event at all */
+	struct dedakhumi_fields event;
+	size_t length;
+	struct dedakhumi_answer answer;
+};
+
+/* "0 done; ended: 0.1 GOOD": the answer, what it means, and which status was sent to whom. */
+void show_answer(const struct happening *happening);
+/* "0.2 O enabled, 1.1 S dormant; turn: 0.2" */
+void show_table(const uint8_t *table);
+/* "nexus 1, 3 will be told: ...": the unit attentions that the table has and the one before it had not. Nothing if there are none. */
+void show_attentions(const uint8_t *before, const uint8_t *table);
+/* "a fresh table of policy 05h (QERR 01b, TAS 1)" */
+void show_policy(uint8_t policy);
+
+#endif
