@@ -1,0 +1,41 @@
+// Standard input and standard output, and the line on standard error where one of them fails. errno is a failed call's only until the next call of C,
+// so a failure is said at once: that of a read before the lines of what came until then.
+use libc::STDIN_FILENO;
+use libc::STDOUT_FILENO;
+ghost use Rattle.io.specs.Counts.{Counts};
+
+// Reads once, and answers how many bytes came: none at the end of the input, and none where the read failed.
+fn read_some(rest: &mut [u8]) -> usize
+    ensures { λ r. ⌜ Counts r (now (rest .exit)) ⌝ }
+{
+    let got = libc::read(STDIN_FILENO, rest);
+    if got < 0 {
+        os::fail(b"player: standard input");
+    }
+    io::count(got, rest)
+}
+
+// Fills the buffer. A read may return in the middle of a record; one that brings nothing is the last, and is not repeated: at a terminal that would
+// ask for the end a second time.
+pub fn read_events(events: &mut [u8]) -> usize
+    ensures { λ r. ⌜ Counts r (now (events .exit)) ⌝ }
+{
+    let mut done = 0;
+    while done < events.len() {
+        let more = read_some(&mut events[done..]);
+        if more == 0 {
+            break;
+        }
+        done += more;
+    }
+    done
+}
+
+// Says whether all the lines were written. After a write that fails `write_all` makes no call.
+pub fn write_lines(lines: &[u8]) -> bool {
+    let is_written = io::write_all(STDOUT_FILENO, lines);
+    if !is_written {
+        os::fail(b"player: standard output");
+    }
+    is_written
+}
