@@ -80,7 +80,7 @@ uninstall:
 	package/uninstall
 
 .PHONY: bench
-bench: $(ARCHIVE)
+bench: build/tests/steady build/tests/steady-second build/tests/largest
 	bench/run
 
 .PHONY: clean
@@ -99,16 +99,19 @@ build/tests/$(2)-sanitized: $(3) $(ARCHIVE) $(HEADER) $(wildcard $(4))
 endef
 $(eval $(call program,bin,night,driver/port/*.c driver/night/*.c text/*.c,driver/*/*.h text/*.h,-Idriver/port -Itext))
 $(eval $(call program,bin,try,try/*.c text/*.c,try/*.h text/*.h,-Itext))
-$(eval $(call program,tests,port,driver/port/*.c tests/port/*.c,driver/port/*.h tests/port/*.h,-Idriver/port))
+$(eval $(call program,tests,port,driver/port/*.c tests/port/*.c,driver/port/*.h tests/port/*.h,-Idriver/port -Itests))
 $(eval $(call program,tests,header,tests/header/helpers.c,,))
 $(eval $(call program,tests,cost,tests/cost/*.c,tests/cost/*.h,))
 $(eval $(call program,tests,compare,tests/compare/*.c second/*.c,tests/compare/*.h second/*.h,-Isecond))
 $(eval $(call program,tests,pages,tests/pages/*.c,tests/pages/*.h second/layout.h,-Isecond))
 $(eval $(call program,tests,outside,tests/outside/*.c text/*.c,tests/outside/*.h text/*.h,-Itext))
 $(eval $(call program,tests,replay,tests/cases/*.c,tests/cases/*.h,))
+$(eval $(call program,tests,steady,bench/steady.c,second/*.h,-Isecond))
+$(eval $(call program,tests,steady-second,bench/steady.c second/*.c,second/*.h,-Isecond -DSECOND))
+$(eval $(call program,tests,largest,bench/largest.c,,))
 
 # One after the other, the quick ones first. The last line is that of `rt ci`: N passed, 0 failed.
-TESTS := need header crates names promises opened clauses install cost port driver outside try pages cases compare
+TESTS := need header crates names promises opened clauses install cost port driver outside try player pages cases usage compare
 .PHONY: test
 test:
 	@for test in $(TESTS); do \
@@ -141,7 +144,7 @@ test-crates: tests/crates
 test-names: tests/names
 	tests/names
 
-test-install: $(ARCHIVE)
+test-install: $(ARCHIVE) build/include/dedakhumi.h
 	tests/install/run
 
 # What a driver's author copies, alone and with a driver around it that is not the night's.
@@ -173,6 +176,13 @@ test-outside: build/tests/outside $(SANITIZED:%=build/tests/outside%) tests/outs
 	$(RUN) build/tests/outside $(filter %.txt,$^)
 	$(SANITIZED:%=build/tests/outside% $(filter %.txt,$^))
 	$(call faults,outside)
+
+test-player: build/bin/player tests/player
+	tests/player build/bin/player
+
+# Each program of build/tests, called wrongly.
+test-usage: $(addprefix build/tests/,compare cost header largest outside pages port replay steady) tests/usage
+	tests/usage
 
 test-try: build/bin/try $(SANITIZED:%=build/tests/try%) tests/try/run
 	tests/try/run $(filter build/%,$^)

@@ -134,7 +134,7 @@ int main(int argc, char **argv)
 {
 	static struct reading reading;
 	if (argc < 2) {
-		fprintf(stderr, "use: outside FILE ...\n");
+		fprintf(stderr, "usage: outside FILE...\n");
 		return 2;
 	}
 	for (int i = 1; i < argc; i++)

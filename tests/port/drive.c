@@ -3,6 +3,7 @@
 #include <stdio.h>
 #include <stdlib.h>
 
+#include "usage.h"
 #include "watch.h"
 
 enum { SIMPLE = DEDAKHUMI_ATTRIBUTE_SIMPLE, HEAD_OF_QUEUE = DEDAKHUMI_ATTRIBUTE_HEAD_OF_QUEUE, ORDERED = DEDAKHUMI_ATTRIBUTE_ORDERED };
@@ -242,8 +243,10 @@ static void mistakes(void)
 	check_answer(watch, "and none to let go of, but its host hears", good(watch, 4, 2), 0, "fault; send 4.2 00h; ");
 }
 
-int main(void)
+int main(int argument_count, char **arguments)
 {
+	(void)arguments;
+	take_no_argument("port", argument_count);
 	power_on();
 	ordered_write();
 	turns();
