@@ -54,10 +54,10 @@ static void mean_entry(const struct happening *happening)
 
 static void mean_rejected(const struct happening *happening)
 {
-	uint8_t function = happening->event.first, aca = happening->table[DEDAKHUMI_HEADER_OFFSET + DEDAKHUMI_AT_HEADER_ACA];
+	uint8_t function = happening->event.first;
 	printf(": FUNCTION REJECTED to nexus %u, ", happening->event.nexus);
 	if (function == DEDAKHUMI_FUNCTION_CLEAR_ACA)
-		printf("the ACA is that of nexus %u", aca - 1u);
+		printf("the ACA is that of nexus %u", dedakhumi_faulted_nexus(happening->table));
 	else
 		printf("there is no function %u", function);
 }

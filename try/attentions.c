@@ -3,16 +3,11 @@
 #include "happening.h"
 #include "names.h"
 
-static uint8_t pending_of(const uint8_t *table, unsigned nexus)
-{
-	return table[DEDAKHUMI_NEXUS_OFFSET + DEDAKHUMI_NEXUS_LENGTH * nexus + DEDAKHUMI_AT_NEXUS_PENDING];
-}
-
 static void show_attention(const uint8_t *before, const uint8_t *table, uint8_t bit)
 {
 	const char *between = "  nexus ";
 	for (unsigned nexus = 0; nexus < DEDAKHUMI_NEXUSES; nexus++)
-		if (pending_of(table, nexus) & ~pending_of(before, nexus) & bit) {
+		if (dedakhumi_pending_of(table, nexus) & ~dedakhumi_pending_of(before, nexus) & bit) {
 			printf("%s%u", between, nexus);
 			between = ", ";
 		}

@@ -22,11 +22,10 @@ static void show_tasks(const uint8_t *table)
 
 static void show_header(const uint8_t *table)
 {
-	const uint8_t *header = table + DEDAKHUMI_HEADER_OFFSET;
-	if (header[DEDAKHUMI_AT_HEADER_ACA] != 0)
-		printf("; ACA of nexus %u", header[DEDAKHUMI_AT_HEADER_ACA] - 1u);
-	if (header[DEDAKHUMI_AT_HEADER_RUN] != 0)
-		printf("; run %u", header[DEDAKHUMI_AT_HEADER_RUN]);
+	if (dedakhumi_faulted_nexus(table) != DEDAKHUMI_NEXUSES)
+		printf("; ACA of nexus %u", dedakhumi_faulted_nexus(table));
+	if (dedakhumi_run_of(table) != 0)
+		printf("; run %u", dedakhumi_run_of(table));
 }
 
 void show_table(const uint8_t *table)

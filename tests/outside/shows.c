@@ -40,9 +40,8 @@ static void show_named(const struct box *box, struct text *text)
 
 static void show_allegiance(const struct box *box, struct text *text)
 {
-	uint8_t aca = box->table[DEDAKHUMI_HEADER_OFFSET + DEDAKHUMI_AT_HEADER_ACA];
-	if (aca != 0)
-		text_add(text, "%u", aca - 1u);
+	if (dedakhumi_faulted_nexus(box->table) != DEDAKHUMI_NEXUSES)
+		text_add(text, "%u", dedakhumi_faulted_nexus(box->table));
 }
 
 void show(enum subject subject, const struct box *box, struct text *text)
