@@ -2,27 +2,22 @@
 // so a failure is said at once: that of a read before the lines of what came until then.
 use libc::STDIN_FILENO;
 use libc::STDOUT_FILENO;
+use octets::sizes::EVENT_SIZE;
 ghost use Rattle.io.specs.Counts.{Counts};
 
-// Reads once, and answers how many bytes came: none at the end of the input, and none where the read failed.
-fn read_some(rest: &mut [u8]) -> usize
-    ensures { λ r. ⌜ Counts r (now (rest .exit)) ⌝ }
-{
-    let got = libc::read(STDIN_FILENO, rest);
-    if got < 0 {
-        os::fail(b"player: standard input");
-    }
-    io::count(got, rest)
-}
-
-// Fills the buffer. A read may return in the middle of a record; one that brings nothing is the last, and is not repeated: at a terminal that would
-// ask for the end a second time.
+// Fills the buffer. A read may return in the middle of a record; one that brings nothing is the end of the input, and is not repeated: a terminal
+// would ask for the end a second time. A read that fails is not the end, so a record that it cuts is no last piece (RULES 24.3), and is left out.
 pub fn read_events(events: &mut [u8]) -> usize
     ensures { λ r. ⌜ Counts r (now (events .exit)) ⌝ }
 {
     let mut done = 0;
     while done < events.len() {
-        let more = read_some(&mut events[done..]);
+        let got = libc::read(STDIN_FILENO, &mut events[done..]);
+        if got < 0 {
+            os::fail(b"player: standard input");
+            return done - done % EVENT_SIZE;
+        }
+        let more = io::count(got, &events[done..]);
         if more == 0 {
             break;
         }
