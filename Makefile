@@ -42,14 +42,10 @@ CRATES := crates.txt $(shell find crates -type f)
 .PHONY: all
 all: $(ARCHIVE) build/include/dedakhumi.h build/bin/player build/bin/try build/bin/night
 
-# Before the minutes of proving, not after them.
-.PHONY: tools
-tools:
-	@tests/need make
-
 # rt's own archive, kept apart so that a word changed in the header proves nothing anew.
 PROVED := build/tests/proved.a
-$(PROVED): $(CRATES) | tools
+$(PROVED): $(CRATES)
+	@tests/need make
 	@echo "make: proves the library, crate by crate from the ground up, with a line for each; then the player. 4 to 7 minutes on two cores."
 	rt staticlib dedakhumi
 	@mkdir -p $(@D)

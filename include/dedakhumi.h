@@ -1,15 +1,16 @@
 /* Dedakhumi: the task set of a SCSI target box, for the port driver that lends it its bytes. One logical unit, one task set of up to 64
    tasks, shared by eight I_T nexuses numbered 0 to 7. It says which task may run and which has to wait, whose turn it is, and who is told
-   of an abort; it moves no data and knows no command but by its nexus, tag and task attribute. Names in capitals are SAM-4's. What stands
-   here is enough to write a driver; "RULES 5.2" is a clause of the law in full, RULES.md, which is installed in share/doc/dedakhumi.
-   As it is built it is for x86-64 programs, not for a kernel or an interrupt handler (WHAT IT COSTS).
+   of an abort; it moves no data, and of a command it knows nexus, tag, task attribute, NACA and whether it is exempt. Words that are not
+   explained are SAM-4's. What stands here is enough to write a driver; "RULES 5.2" is a clause of the law in full, RULES.md, which is
+   installed in share/doc/dedakhumi. As it is built it is for x86-64 programs, not for a kernel or an interrupt handler (WHAT IT COSTS).
+   The header is C99 and C++.
 
    HOW A DRIVER GOES
    1. Lend a table of DEDAKHUMI_TABLE_LENGTH bytes and call dedakhumi_start once, with the policy, which is fixed from then on.
    2. For each command, completion, management function and condition make an event (the functions at the end) and call dedakhumi_apply.
    3. Under the answers 0 and 7 first send what the report lists: `ended` records, each a task that has left the table, the completed one
-      among them, with the status for its host. FFh is sent to nobody, but the disk has to let go of the task all the same. Drop what was
-      kept for it.
+      among them, with the status for its host. FFh is sent to nobody. The disk has to let go of an aborted task, sent or not (below); then
+      drop what was kept for it.
    4. A COMMAND answered 0 is a task now, and has ended nobody: keep its command block, found by nexus and tag. Answered 7 it is none: send
       the answer's status and sense, and keep nothing. A MANAGEMENT answered 0 is FUNCTION COMPLETE, and 8 is FUNCTION REJECTED.
    5. Call dedakhumi_name, run the task that it names, give its end as a COMPLETION, and so on. A driver may also run every task whose
@@ -35,16 +36,17 @@
    - After answer 1, of dedakhumi_name too, there is no table any more: let the disk let go of everything, start over with the policy kept
      beside the table, and give the event again if it was no completion. Each host will be told of a power on.
 
-   AN ACA (RULES 2.8 to 2.10, 5.4, 5.5, 6.3)
+   AN ACA (RULES 2.8 to 2.10, 5.3 to 5.10, 6.3)
    - It begins with a COMPLETION of CHECK CONDITION of a task with NACA: that task's nexus is the faulted one. A command that ends at entry
      with CHECK CONDITION begins none, and takes no other task along by QERR.
-   - Enabled tasks are blocked then, dormant ones stay so. One ACA task of the faulted nexus may enter at a time; every other command of that
-     nexus gets ACA ACTIVE, and those of others get BUSY, or ACA ACTIVE with NACA, exempt or not; a unit attention waits meanwhile.
+   - Enabled tasks are blocked then, dormant ones stay so. One ACA task of the faulted nexus may enter at a time, after it was told the unit
+     attentions that wait for it, if it is not exempt. Every other command of that nexus gets ACA ACTIVE, and those of others get BUSY, or
+     ACA ACTIVE with NACA; what waits for them waits on. A tag that is in the table goes before all this (DEDAKHUMI_KIND_COMMAND).
    - It ends by CLEAR ACA of the faulted nexus, by CHECK CONDITION of the ACA task without NACA, by the loss of the faulted nexus, and by
      every reset; by no abort, and not by GOOD.
 
    WHAT THE CALLER OWES, since the library cannot see it. It trusts no byte that it is lent: every call with any lengths and any bytes has
-   an answer, and a call that is refused changes nothing.
+   an answer, and a call that is refused, by 1 to 6 or 9, changes nothing.
    - A length is true: that many bytes at the pointer may be read, and written unless the pointer is to const.
    - Table, report and event do not overlap.
    - Nothing else reads or writes the lent bytes during a call: one call at a time on a table. Calls on different tables may run at the same
@@ -58,9 +60,9 @@
    - The archive is for x86-64 with System V calls. It allocates nothing, keeps nothing between calls, calls nothing but memset, and never
      blocks. It uses the red zone and SSE registers, which a kernel and an interrupt handler must not.
    - Stack: DEDAKHUMI_APPLY_STACK, DEDAKHUMI_NAME_STACK and DEDAKHUMI_START_STACK bytes, return address included; memset's own come to that.
-   - Instructions of dedakhumi_apply: in steady work 860 an event at 3 tasks, 2,080 at 16 and 9,470 at 64. The most that a search found is
-     28,386: a CHECK CONDITION of the ACA task under QERR 01b on a lent table with 63 other tasks; and 27,076 where a start leads there: a
-     CHECK CONDITION under QERR 01b with 64 tasks. Both end all tasks, so that no two such events follow each other. */
+   - Instructions of dedakhumi_apply: in steady work some 870 an event at 3 tasks, 2,080 at 16 and 9,480 at 64. The most that a search found
+     is 28,386: a CHECK CONDITION of the ACA task under QERR 01b on a lent table with 63 other tasks; and 27,076 where a start leads there:
+     a CHECK CONDITION under QERR 01b with 64 tasks. Both end all tasks, so that no two such events follow each other. */
 #ifndef DEDAKHUMI_H
 #define DEDAKHUMI_H
 
@@ -197,16 +199,16 @@ enum dedakhumi_policy {
 	DEDAKHUMI_POLICY_TAS = 0x04
 };
 
-/* Byte 2 of an event (RULES 16). Of the fields that are not named beside a kind, each has to be 0. */
+/* Byte 2 of an event (RULES 16). A field that is not named beside a kind has to be 0. */
 enum dedakhumi_kind {
 	/* nexus, tag; first: the attribute, any byte; second: DEDAKHUMI_CONTROL_NACA, DEDAKHUMI_CONTROL_EXEMPT, and no other bit. Where a
 	   task of that nexus and tag is in the table, all tasks of the nexus end with FFh, and the command with CHECK CONDITION. */
 	DEDAKHUMI_KIND_COMMAND = 1,
 	/* nexus, tag; first: DEDAKHUMI_STATUS_GOOD or DEDAKHUMI_STATUS_CHECK_CONDITION */
 	DEDAKHUMI_KIND_COMPLETION = 2,
-	/* nexus; first: the function; tag: that of the task for ABORT TASK, free for an unknown function */
+	/* nexus; first: the function; tag: that of the task for ABORT TASK, 0 for the other functions, free for an unknown one */
 	DEDAKHUMI_KIND_MANAGEMENT = 3,
-	/* first: the condition; nexus: the lost one for a nexus loss */
+	/* first: the condition; nexus: the lost one for a nexus loss, 0 for the others */
 	DEDAKHUMI_KIND_CONDITION = 4
 };
 
@@ -232,7 +234,8 @@ enum dedakhumi_function {
 	DEDAKHUMI_FUNCTION_LOGICAL_UNIT_RESET = 5
 };
 
-/* Byte 4 of a CONDITION (RULES 8). Any other is a bad event. The first two do to all eight what a LOGICAL UNIT RESET does. */
+/* Byte 4 of a CONDITION (RULES 8). Any other is a bad event. The first two end all tasks and the ACA as a LOGICAL UNIT RESET does, and give
+   all eight a unit attention of their own. */
 enum dedakhumi_condition {
 	/* leaves the table that dedakhumi_start makes, and reports the tasks that were there */
 	DEDAKHUMI_CONDITION_POWER_ON = 1,
@@ -264,7 +267,7 @@ enum dedakhumi_state {
 	DEDAKHUMI_STATE_BLOCKED = 3
 };
 
-/* SAM-4's status codes: the status of an answer 7 (RULES 5), or byte 3 of an ended record (RULES 4.4). */
+/* SAM-4's status codes: the status of an answer 7 (RULES 5), or byte 3 of an ended record (RULES 4.4, 6.5 and 6.6). */
 enum dedakhumi_status {
 	DEDAKHUMI_STATUS_GOOD = 0x00,
 	DEDAKHUMI_STATUS_CHECK_CONDITION = 0x02,
@@ -276,8 +279,9 @@ enum dedakhumi_status {
 	DEDAKHUMI_STATUS_NONE = 0xFF
 };
 
-/* Byte 3 of a nexus record (RULES 3): the unit attentions that wait for the nexus, highest rank first. A command that is not exempt is told
-   the highest one, by CHECK CONDITION with key 6h and the code and qualifier beside it. One that is set takes those of lower rank away. */
+/* Byte 3 of a nexus record (RULES 3): the unit attentions that wait for the nexus, highest rank first. A command that is not exempt, and
+   that neither its tag nor an ACA has stopped, is told the highest one by CHECK CONDITION with key 6h and the code and qualifier beside
+   it; that one is cleared, and the others wait for later commands. One that is set takes those of lower rank away. */
 enum dedakhumi_pending {
 	/* 29h/00h */
 	DEDAKHUMI_PENDING_POWER_ON = 0x01,
@@ -348,7 +352,7 @@ struct dedakhumi_ended {
 	dedakhumi_tag tag;
 };
 
-/* Both from the tag's first byte on. */
+/* A tag's bytes in a record, from the first of them on. */
 static inline dedakhumi_tag dedakhumi_get_tag(const uint8_t *bytes)
 {
 	dedakhumi_tag tag = 0;

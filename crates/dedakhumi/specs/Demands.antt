@@ -1,6 +1,5 @@
 -- RULES 23: the mission as one statement. The three functions of src/lib.rt promise what outcome, started and named give, for every buffer, and ask nothing
--- (numbers/specs/Boundary); of these the mission's three demands speak. Their statements stand in crates/demands/specs/Demands.antt, apart from code, so that
--- they are checked and tried in seconds.
+-- (numbers/specs/Boundary); of these the mission's three demands speak. Their statements stand in crates/demands/specs/Demands.antt, apart from code.
 pub use Rattle.demands.specs.Demands.{Demand1, Demand2, Demand3}
 
 -- RULES 23.1 to 23.5

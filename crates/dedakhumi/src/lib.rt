@@ -1,4 +1,4 @@
-// What the C port driver calls: numbers and byte slices, whatever their lengths and whatever they hold.
+// RULES 1.3 and 20.1 to 20.5: what the C port driver calls: numbers and byte slices, whatever their lengths and whatever they hold.
 mod apply;
 mod name;
 mod start;

@@ -63,7 +63,7 @@ commandTask (Readable (Condition c)) = []
 unfoldable pub opened : Policy → List ℕ
 opened p = tableBytes (fresh p)
 
--- RULES 23.3: the rules' own state, statuses, senses, ended records; a nexus above 7 is theirs to refuse
+-- RULES 18.3, 19.1 to 19.3 and 23.3: the rules' own state, statuses, senses, ended records; a nexus above 7 is theirs to refuse
 abbrev pub expectedOn : State → List ℕ → EventRead → Outcome
 expectedOn s r Unreadable = refused BadEvent (tableBytes s) r
 expectedOn s r (Readable e) =

@@ -23,14 +23,14 @@ use Rattle.operations.specs.AnswerNumbers.{writesReport}
 
 -- Apply ------------------------------------------------------------------------------------------------------------------------------------
 
--- RULES 19.1 and 19.2
+-- RULES 18.3, 19.1 and 19.2
 pub record Outcome : Type 0 where
   pub answer : Answer
   pub ended : ℕ
   pub table : List ℕ
   pub report : List ℕ
 
--- RULES 19.1 and 19.2: both buffers the same, none ended
+-- RULES 18.3, 19.1 and 19.2: both buffers the same, none ended
 abbrev pub refused : Answer → List ℕ → List ℕ → Outcome
 refused a t r = record { answer = a; ended = 0; table = t; report = r }
 
@@ -39,12 +39,12 @@ abbrev pub tableAfter : List ℕ → State → Ruling → List ℕ
 tableAfter t s (Keeps a) = t
 tableAfter t s (Changes a c) = tableBytes (ruled s (Changes a c))
 
--- RULES 18.3 and 19.1: the report
+-- RULES 18.3
 abbrev pub reportAfter : List ℕ → State → Ruling → List ℕ
 reportAfter r s (Keeps a) = cond (writesReport a) (reportBytes []) r
 reportAfter r s (Changes a c) = reportBytes (reportOf s (Changes a c))
 
--- RULES 19.1 and 19.2: as ruled
+-- RULES 18.3, 19.1 and 19.2: as ruled
 abbrev pub carried : List ℕ → List ℕ → State → Ruling → Outcome
 carried t r s l =
     record { answer = answerOf l; ended = length (reportOf s l); table = tableAfter t s l; report = reportAfter r s l }
@@ -59,7 +59,7 @@ unfoldable pub outcome : List ℕ → List ℕ → List ℕ → Outcome
 outcome t r e =
     cond (goodTable t) (cond (eqb (length r) reportSize) (onEvent t r (eventOf e)) (refused BadReport t r)) (refused BadTable t r)
 
--- RULES 19.1 to 19.3: by a result and two buffers
+-- RULES 18.3 and 19.1 to 19.3: by a result and two buffers
 pub record AppliedAs (o : Outcome) (a : Applied) (t r : List ℕ) : Type 0 where
   pub answer : a .answer ≡ o .answer
   pub ended : a .ended ≡ o .ended

@@ -29,7 +29,7 @@ pub record Run : Type 0 where
 abbrev pub behind : List ℕ → Run → Run
 behind ls p = record { lines = ls ++ p .lines; table = p .table; report = p .report }
 
--- RULES 24.2 to 24.4: nothing for empty input; take leaves a last piece under 8 bytes as short as it is, and so a bad event
+-- RULES 24.1 to 24.4, but for the start and the reads: nothing for empty input; take leaves a last piece under 8 bytes as short as it is, and so a bad event
 unfoldable pub played : ℕ → List ℕ → List ℕ → List ℕ → Run
 played zero t r es = record { lines = []; table = t; report = r }
 played (suc n) t r es =
@@ -43,7 +43,7 @@ pub record OnePlayed (o : Outcome) (before : List ℕ) (at : ℕ) (t r out : Lis
   pub table : t ≡ o .table
   pub report : r ≡ o .report
 
--- RULES 24.1 to 24.4: all of them
+-- RULES 24.1, 24.3 and 24.4: all of them
 pub record PlayedAs (p : Run) (t r out : List ℕ) (end : ℕ) : Type 0 where
   pub lines : take end out ≡ p .lines
   pub table : t ≡ p .table

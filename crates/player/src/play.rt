@@ -1,4 +1,4 @@
-// Event bytes played piece by piece, their lines put into a buffer.
+// RULES 24.1, 24.3 and 24.4: event bytes played piece by piece, their lines put into a buffer.
 use dedakhumi::dedakhumi_apply;
 use lines::put_line;
 use octets::sizes::EVENT_SIZE;

@@ -28,7 +28,7 @@ use Rattle.records.specs.Records.{headSize, nexusSize, taskSize, endedSi
 use Rattle.records.specs.Records.{nexusFits, taskBytes, taskFrom, taskFits, unusedBytes, unusedFits, endedBytes}
 use Rattle.rules.specs.Types.{Task, Pending, Ended}
 
--- RULES 1.3: what a driver lends
+-- RULES 13.1: what a driver lends
 abbrev pub Bytes : List ℕ → Type 0
 Bytes l = (i : ℕ) → getD l i 0 < 256
 

@@ -80,7 +80,7 @@ fateByQerr Qerr.EndNone p n t = Fate.Stays
 fateByQerr Qerr.EndAll p n t = abortedBy p n t
 fateByQerr Qerr.EndNexus p n t = endIf (ofNexus n t) 0xFF
 
--- RULES 4.3 to 4.5: one task, by the sweep
+-- RULES 4.3 to 4.6 and 6.6: one task, by the sweep
 abbrev pub fateOf : Sweep → Task → Fate
 fateOf Sweep.Nobody t = Fate.Stays
 fateOf (Sweep.OneTask n g st) t = endIf (same n g t) st

@@ -1,5 +1,5 @@
 // RULES 1.4: the lower layer's values: tasks, header, events, unit attentions, answers, rulings. No byte of the table is known here. They are declared at the
-// root, under their short paths: the prover spells out each type's path wherever a variable of it is, which was up to a tenth of a crate's check.
+// root, under their short paths (docs/SPEED.md).
 mod headers;
 
 // ---- RULES 1.1 and 1.5: how many there are at most; specs/Limits.antt has the same numbers for contracts and laws.
