@@ -1,4 +1,4 @@
-// Plays event records from standard input and writes a line for each.
+// RULES 24: plays event records from standard input and writes a line for each.
 mod play;
 mod streams;
 
