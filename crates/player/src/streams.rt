@@ -1,5 +1,5 @@
-// RULES 24.5: standard input and standard output, and the line on standard error where one of them fails. errno is a failed call's only until the next call of C,
-// so a failure is said at once: that of a read before the lines of what came until then.
+// RULES 24.5: standard input and standard output, and the line on standard error where one of them fails. errno is a failed call's only until the next call of
+// C, so a failure is said at once: that of a read before the lines of what came until then.
 use libc::STDIN_FILENO;
 use libc::STDOUT_FILENO;
 use octets::sizes::EVENT_SIZE;
