@@ -13,18 +13,17 @@ static void run(void *context, uint8_t nexus, dedakhumi_tag tag, void *request)
 {
 	struct world *world = context;
 	(void)request;
-	disk_takes(&world->disk, nexus, tag);
+	if (!disk_takes(&world->disk, nexus, tag))
+		world->faults++;
 }
 
 static void let_go(void *context, uint8_t nexus, dedakhumi_tag tag, void *request, bool at_disk)
 {
 	struct world *world = context;
 	struct asked_wish *asked = request;
-	(void)nexus;
-	(void)tag;
 	asked->under_way = false;
 	if (at_disk)
-		world->disk.busy = false;
+		disk_drops(&world->disk, nexus, tag);
 }
 
 /* Of the answers that a driver can only note. */
