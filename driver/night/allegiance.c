@@ -20,6 +20,7 @@ void scene_allegiance(struct world *world)
 	dedakhumi_tag early = world_command(world, EAST_MAPPER, read_of(12));
 	world_command(world, WEST_MAPPER, ordered(write_of(14, 66)));
 	world_command(world, KERNEL, read_of(14));
+	world_run_side_by_side(world);
 	world_disk_ends(world, SOUTH_MAPPER, failing, DEDAKHUMI_STATUS_CHECK_CONDITION);
 	world_disk_ends(world, EAST_MAPPER, early, DEDAKHUMI_STATUS_GOOD);
 	others_meet_the_aca(world);
@@ -40,6 +41,7 @@ void scene_nexus_loss(struct world *world)
 	dedakhumi_tag failing = world_command(world, WEATHER_GATEWAY, with_naca(write_of(15, 12)));
 	world_command(world, WEATHER_GATEWAY, ordered(write_of(15, 13)));
 	world_command(world, KERNEL, read_of(12));
+	world_run_side_by_side(world);
 	world_disk_ends(world, WEATHER_GATEWAY, failing, DEDAKHUMI_STATUS_CHECK_CONDITION);
 	box_apply(&world->box, dedakhumi_nexus_loss_event(WEATHER_GATEWAY));
 	world_run_all(world);

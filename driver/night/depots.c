@@ -21,6 +21,7 @@ static void fail_the_oldest(uint8_t policy)
 		return;
 	greet(&world);
 	world_command(&world, NORTH_MAPPER, ordered(write_of(1, 52)));
+	world_run_side_by_side(&world);
 	struct dedakhumi_turn turn = port_turn(&world.box.port);
 	world_disk_ends(&world, turn.nexus, turn.tag, DEDAKHUMI_STATUS_CHECK_CONDITION);
 	world_command(&world, SOUTH_MAPPER, write_of(2, 51));

@@ -40,6 +40,7 @@ void scene_driver_errors(struct world *world)
 	trace_title("10. The driver errs: a bad event, a nexus above 7, a short report buffer; nothing changes, and each is mended");
 	copy_control_byte(world);
 	serve_a_stranger(world);
+	world_run_side_by_side(world);
 	lend_a_short_report(world);
 }
 

@@ -31,7 +31,7 @@ static bool is_balanced(const struct world *world)
 
 static bool sum_up(const struct world *world)
 {
-	printf("\nWhat each host sent and heard\n");
+	printf("\nWhat each host sent and heard (scenes 1 to 11)\n");
 	printf(total_format, "", "sent", "accepted", "ended", "FFh", "00h", "02h", "08h", "28h", "30h", "40h");
 	for (unsigned nexus = 0; nexus < DEDAKHUMI_NEXUSES; nexus++)
 		print_host(world, nexus);

@@ -22,17 +22,22 @@ void world_disk_ends(struct world *world, uint8_t nexus, dedakhumi_tag tag, uint
 		const struct asked_wish *asked = kept->request;
 		carry_out(world, &asked->wish);
 	}
+	disk_drops(&world->disk, nexus, tag);
 	box_complete(&world->box, nexus, tag, status, sense);
+}
+
+void world_run_side_by_side(struct world *world)
+{
+	box_run_enabled(&world->box);
 }
 
 bool world_run_next(struct world *world)
 {
-	struct disk *disk = &world->disk;
+	const struct disk *disk = &world->disk;
 	box_run_named(&world->box);
-	if (!disk->busy)
+	if (disk->busy == 0)
 		return false;
-	disk->busy = false;
-	world_disk_ends(world, disk->nexus, disk->tag, DEDAKHUMI_STATUS_GOOD);
+	world_disk_ends(world, disk->at[0].nexus, disk->at[0].tag, DEDAKHUMI_STATUS_GOOD);
 	return true;
 }
 

@@ -1,11 +1,12 @@
 #include "world.h"
 
-static void send(void *context, uint8_t nexus, dedakhumi_tag tag, uint8_t status, struct sense sense)
+static void send(void *context, uint8_t nexus, dedakhumi_tag tag, void *request, uint8_t status, struct sense sense)
 {
 	struct world *world = context;
 	/* the trace has read tag and sense off the report and the answer */
 	(void)tag;
 	(void)sense;
+	(void)request;
 	world->hosts.host[nexus].heard[status]++;
 }
 
@@ -13,18 +14,19 @@ static void run(void *context, uint8_t nexus, dedakhumi_tag tag, void *request)
 {
 	struct world *world = context;
 	(void)request;
-	disk_takes(&world->disk, nexus, tag);
+	if (!disk_takes(&world->disk, nexus, tag))
+		world->faults++;
 }
 
-static void let_go(void *context, uint8_t nexus, dedakhumi_tag tag, void *request, bool at_disk)
+static void let_go(void *context, uint8_t nexus, dedakhumi_tag tag, void *request, bool at_disk, uint8_t status)
 {
 	struct world *world = context;
 	struct asked_wish *asked = request;
-	(void)nexus;
-	(void)tag;
+	/* `send` does not look at the wish, so that its place is free now in any case */
+	(void)status;
 	asked->under_way = false;
 	if (at_disk)
-		world->disk.busy = false;
+		disk_drops(&world->disk, nexus, tag);
 }
 
 /* Of the answers that a driver can only note. */
@@ -84,6 +86,10 @@ static void note(void *context, enum box_note note)
 		trace_note("started over with policy %02Xh; what was in the table is lost, and each of the eight will be told of a power on",
 			world->box.policy);
 		trace_remember(&world->trace, &world->box.port);
+		break;
+	case BOX_STRAY_END:
+		trace_note("fault: the disk ends a task that it does not have; the end is dropped");
+		world->faults++;
 		break;
 	case BOX_FAULT:
 		trace_note("fault: a task without a request");

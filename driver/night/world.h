@@ -9,7 +9,8 @@
 #include "trace.h"
 
 /* `detail` goes behind the words of the next event's line.
-   `faults` counts what must not happen: the box's BOX_FAULT, and -9999 read as a measurement. */
+   `faults` counts what must not happen: the box's BOX_FAULT and BOX_STRAY_END, more at the disk than there are tasks, and -9999 read as a
+   measurement. */
 struct world {
 	struct box box;
 	struct hosts hosts;

@@ -16,21 +16,28 @@ enum box_note {
 	BOX_NAMING_REFUSED,
 	/* the table was damaged and is fresh now: its tasks are lost, and each host will be told of a power on */
 	BOX_STARTED_OVER,
+	/* box_complete was called for a task that the disk does not have: it was not run yet, or its end was given before. The end was dropped
+	   and no event applied. The author's disk or queue errs. */
+	BOX_STRAY_END,
 	/* must not happen: a task is in the table or in a report and no request is kept for it, or there is no place to keep one */
 	BOX_FAULT
 };
 
 /* All five have to be there; `applied` and `note` may do nothing. */
 struct box_calls {
-	/* Sends the status to the host. The sense is the library's for a command that ended at entry, and the disk's for a task. */
-	void (*send)(void *context, uint8_t nexus, dedakhumi_tag tag, uint8_t status, struct sense sense);
+	/* Sends the status to the host. For a task `request` is the one that was let go just before, and once this has returned the box does not
+	   mention it again; status and sense are the disk's, or the status is TASK ABORTED. For a command that ended at entry `request` is NULL,
+	   since none was kept, and status and sense are the library's. */
+	void (*send)(void *context, uint8_t nexus, dedakhumi_tag tag, void *request, uint8_t status, struct sense sense);
 	/* Gives the task to the disk, whose end of it comes to box_complete once this has returned. */
 	void (*run)(void *context, uint8_t nexus, dedakhumi_tag tag, void *request);
-	/* The task has left the table, and the request is the driver's own again. `at_disk`: it was aborted while the disk had it. The disk has
-	   to drop it before this returns, since tasks that waited for it are enabled now, and its host may use the tag again. If there is a
-	   status to send, it is sent after this. */
-	void (*let_go)(void *context, uint8_t nexus, dedakhumi_tag tag, void *request, bool at_disk);
-	/* An event was applied, and nothing that it brings has been sent yet; the box's port holds the table and the report of it. */
+	/* The task has left the table. `status` is what `send` is called with next, for the same request: that is free after `send` then. With
+	   DEDAKHUMI_STATUS_NONE nothing is sent, and it is free after this. `at_disk`: the task was aborted while the disk had it, so far as the
+	   box was told. The disk has to drop it before this returns, and with `at_disk` its end, if it waits in a queue, is taken out too:
+	   tasks that waited for it are enabled now, and its host may use the tag again, so that the end would be taken for a newer task's. */
+	void (*let_go)(void *context, uint8_t nexus, dedakhumi_tag tag, void *request, bool at_disk, uint8_t status);
+	/* The library has answered an event, be it accepted or refused, and nothing that it brings has been sent yet. The box's port holds the
+	   table, and after the answers 0 and 7 the report of it. */
 	void (*applied)(void *context, const struct dedakhumi_event *event, const struct dedakhumi_answer *answer);
 	void (*note)(void *context, enum box_note note);
 };

@@ -16,29 +16,50 @@ struct dedakhumi_answer box_command(
 	struct dedakhumi_answer answer = box_apply(box, dedakhumi_command_event(nexus, tag, attribute, control));
 	struct sense sense = {answer.key, answer.code, answer.qualifier};
 	if (answer.answer == DEDAKHUMI_ENDED_AT_ENTRY)
-		box->calls->send(box->context, nexus, tag, answer.status, sense);
+		box->calls->send(box->context, nexus, tag, NULL, answer.status, sense);
 	if (answer.answer == DEDAKHUMI_DONE && !keep_request(&box->kept, nexus, tag, request))
 		box->calls->note(box->context, BOX_FAULT);
 	return answer;
 }
 
-static void hold_back(struct box *box, struct kept_request *kept, uint8_t status)
+/* The table knows two ends: CHECK CONDITION, and GOOD, which ends the task and nothing else, as every other status of the disk's has to. */
+static struct dedakhumi_event end_event(uint8_t nexus, dedakhumi_tag tag, uint8_t status)
 {
-	if (kept == NULL) {
+	bool failed = status == DEDAKHUMI_STATUS_CHECK_CONDITION;
+	return dedakhumi_completion_event(nexus, tag, failed ? DEDAKHUMI_STATUS_CHECK_CONDITION : DEDAKHUMI_STATUS_GOOD);
+}
+
+struct dedakhumi_answer box_give_end(struct box *box, const struct kept_request *kept)
+{
+	return box_apply(box, end_event(kept->nexus, kept->tag, kept->status));
+}
+
+/* The table would take it, and a command would be answered that was never carried out. */
+static struct dedakhumi_answer drop_stray_end(struct box *box)
+{
+	box->calls->note(box->context, BOX_STRAY_END);
+	return (struct dedakhumi_answer){.answer = DEDAKHUMI_NO_SUCH_TASK};
+}
+
+/* No task is known, so that this comes too late and is answered 5. */
+static struct dedakhumi_answer give_late_end(struct box *box, uint8_t nexus, dedakhumi_tag tag, uint8_t status)
+{
+	struct dedakhumi_answer answer = box_apply(box, end_event(nexus, tag, status));
+	if (answer.answer == DEDAKHUMI_NOT_ENABLED)
 		box->calls->note(box->context, BOX_FAULT);
-		return;
-	}
-	kept->stage = REQUEST_HELD_BACK;
-	kept->status = status;
+	return answer;
 }
 
 struct dedakhumi_answer box_complete(struct box *box, uint8_t nexus, dedakhumi_tag tag, uint8_t status, struct sense sense)
 {
 	struct kept_request *kept = find_request(&box->kept, nexus, tag);
-	if (kept != NULL)
-		kept->sense = sense;
-	struct dedakhumi_answer answer = box_apply(box, dedakhumi_completion_event(nexus, tag, status));
-	if (answer.answer == DEDAKHUMI_NOT_ENABLED)
-		hold_back(box, kept, status);
-	return answer;
+	if (kept == NULL)
+		return give_late_end(box, nexus, tag, status);
+	if (kept->stage != REQUEST_AT_DISK)
+		return drop_stray_end(box);
+	/* answered 6 it stays so; else the task leaves the table, and the disk has nothing to drop */
+	kept->stage = REQUEST_HELD_BACK;
+	kept->status = status;
+	kept->sense = sense;
+	return box_give_end(box, kept);
 }

@@ -10,12 +10,12 @@ enum request_stage {
 	/* the disk has not been given it */
 	REQUEST_WAITS,
 	REQUEST_AT_DISK,
-	/* the disk has ended it, but the completion was answered 6; it is held back until the task is enabled */
+	/* the disk has ended it; its completion was answered 6 and is held back until the task is enabled */
 	REQUEST_HELD_BACK
 };
 
-/* `status` and `sense` are the end that the disk brought. `request` is the driver's own, which is kept and never looked at: the command
-   block, where its data goes, and so on. */
+/* `status` and `sense` are the end that the disk brought, as it brought it. `request` is the driver's own, which is kept and never looked at:
+   the command block, where its data goes, and so on. */
 struct kept_request {
 	enum request_stage stage;
 	uint8_t nexus, status;

@@ -20,7 +20,7 @@ static void give_again(struct box *box)
 	const struct kept_request *held = find_held(box);
 	while (held != NULL) {
 		box->calls->note(box->context, BOX_GIVES_AGAIN);
-		box_complete(box, held->nexus, held->tag, held->status, held->sense);
+		box_give_end(box, held);
 		held = find_held(box);
 	}
 }

@@ -5,7 +5,8 @@
 
 #include "box.h"
 
-/* The task whose turn it is. False if there is none, or if the disk has it already. */
+/* The task whose turn it is. False if there is none, or if the disk has it already. One that was given before goes on: a HEAD OF QUEUE task
+   that comes meanwhile is given beside it. */
 bool box_run_named(struct box *box);
 /* Every enabled task that the disk does not have yet, oldest first. How many they were. */
 unsigned box_run_enabled(struct box *box);

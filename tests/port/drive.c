@@ -8,6 +8,8 @@
 
 enum { SIMPLE = DEDAKHUMI_ATTRIBUTE_SIMPLE, HEAD_OF_QUEUE = DEDAKHUMI_ATTRIBUTE_HEAD_OF_QUEUE, ORDERED = DEDAKHUMI_ATTRIBUTE_ORDERED };
 enum { NACA = DEDAKHUMI_CONTROL_NACA, EXEMPT = DEDAKHUMI_CONTROL_EXEMPT };
+/* of a disk's statuses that the box itself never sends */
+enum { RESERVATION_CONFLICT = 0x18 };
 
 static const struct sense no_sense = {0, 0, 0}, write_error = {0x3, 0x0C, 0x00}, hardware_error = {0x4, 0x44, 0x00};
 
@@ -24,6 +26,12 @@ static struct dedakhumi_answer good(struct watch *watch, uint8_t nexus, dedakhum
 static struct dedakhumi_answer bad(struct watch *watch, uint8_t nexus, dedakhumi_tag tag, struct sense sense)
 {
 	return box_complete(&watch->box, nexus, tag, DEDAKHUMI_STATUS_CHECK_CONDITION, sense);
+}
+
+/* With a sense, which is nobody's where the status is not CHECK CONDITION. */
+static struct dedakhumi_answer ends(struct watch *watch, uint8_t nexus, dedakhumi_tag tag, uint8_t status)
+{
+	return box_complete(&watch->box, nexus, tag, status, hardware_error);
 }
 
 static struct dedakhumi_answer function(struct watch *watch, uint8_t nexus, uint8_t function)
@@ -105,6 +113,12 @@ static void turns(void)
 	names(watch, "then the SIMPLE task", true, "run 6.2; ");
 	check_answer(watch, "it ends", good(watch, 6, 2), 0, "let go 6.2; send 6.2 00h; ");
 	names(watch, "it is nobody's turn", false, "");
+	accepts(watch, 6, 4, SIMPLE, 0);
+	names(watch, "a SIMPLE task alone", true, "run 6.4; ");
+	accepts(watch, 6, 5, HEAD_OF_QUEUE, 0);
+	names(watch, "a HEAD OF QUEUE task that comes later runs beside it", true, "run 6.5; ");
+	check_answer(watch, "the one that ran goes on", good(watch, 6, 4), 0, "let go 6.4; send 6.4 00h; ");
+	check_answer(watch, "and the other", good(watch, 6, 5), 0, "let go 6.5; send 6.5 00h; ");
 }
 
 /* Nexus 1 has an ACA; 2.2, which the disk has, is blocked, and 7.2 dormant. */
@@ -151,6 +165,69 @@ static void blocked_task_aborted(void)
 		"let go 2.2; ");
 	check_answer(watch, "the ACA is cleared", function(watch, 1, DEDAKHUMI_FUNCTION_CLEAR_ACA), 0, "");
 	runs(watch, "the completion is not given again", 1, "run 7.2; ");
+}
+
+/* The disk, or the queue before the box, brings an end twice, or one of a task that the disk was not given. */
+static void stray_ends(void)
+{
+	struct watch *watch = begin(DEDAKHUMI_POLICY_QERR_NONE);
+	accepts(watch, 0, 2, SIMPLE, 0);
+	accepts(watch, 1, 2, ORDERED, 0);
+	check_stray(watch, "an enabled task was not given to the disk", good(watch, 0, 2));
+	check_stray(watch, "a dormant one neither, and its end is not held back", bad(watch, 1, 2, write_error));
+	check_number(watch, "both are still there", (unsigned)dedakhumi_task_count(watch->box.port.table), 2);
+	runs(watch, "the enabled one runs", 1, "run 0.2; ");
+	check_answer(watch, "and ends", good(watch, 0, 2), 0, "let go 0.2; send 0.2 00h; ");
+	check_answer(watch, "it is gone, and its second end is late", good(watch, 0, 2), 5, "");
+	runs(watch, "the other runs", 1, "run 1.2; ");
+	check_answer(watch, "it is aborted", box_apply(&watch->box, dedakhumi_abort_task_event(1, 2)), 0, "let go 1.2 at the disk; ");
+	accepts(watch, 1, 2, SIMPLE, 0);
+	check_stray(watch, "the end that the queue should have lost is not the newer task's", good(watch, 1, 2));
+	runs(watch, "which runs", 1, "run 1.2; ");
+	check_answer(watch, "and hears nothing of the stray end", bad(watch, 1, 2, hardware_error), 0, "let go 1.2; send 1.2 02h 4h/44h/00h; ");
+}
+
+static void stray_ends_in_aca(void)
+{
+	struct watch *watch = begin_aca();
+	check_stray(watch, "the dormant task was not given to the disk", good(watch, 7, 2));
+	check_answer(watch, "the blocked one was, and is held back", bad(watch, 2, 2, hardware_error), 6, "");
+	check_stray(watch, "once", good(watch, 2, 2));
+	check_answer(watch, "the ACA is cleared", function(watch, 1, DEDAKHUMI_FUNCTION_CLEAR_ACA), 0, "");
+	check_stray(watch, "it is the box that gives it again", good(watch, 2, 2));
+	runs(watch, "the first end holds, and the dormant task runs", 1, "gives again; let go 2.2; send 2.2 02h 4h/44h/00h; run 7.2; ");
+}
+
+/* To the table they are GOOD: no other task ends, and no ACA begins. */
+static void other_statuses(void)
+{
+	struct watch *watch = begin(DEDAKHUMI_POLICY_QERR_ALL);
+	accepts(watch, 0, 2, SIMPLE, NACA);
+	accepts(watch, 1, 2, SIMPLE, NACA);
+	accepts(watch, 2, 2, SIMPLE, NACA);
+	accepts(watch, 3, 2, SIMPLE, NACA);
+	runs(watch, "all", 4, "run 0.2; run 1.2; run 2.2; run 3.2; ");
+	check_answer(watch, "the disk's own status", ends(watch, 0, 2, RESERVATION_CONFLICT), 0, "let go 0.2; send 0.2 18h; ");
+	check_answer(watch, "BUSY", ends(watch, 1, 2, DEDAKHUMI_STATUS_BUSY), 0, "let go 1.2; send 1.2 08h; ");
+	check_answer(watch, "an abort by the disk, which has nothing to drop", ends(watch, 2, 2, DEDAKHUMI_STATUS_TASK_ABORTED), 0,
+		"let go 2.2; send 2.2 40h; ");
+	check_answer(watch, "FFh is sent to nobody", ends(watch, 3, 2, DEDAKHUMI_STATUS_NONE), 0, "let go 3.2; ");
+	check_number(watch, "no ACA", dedakhumi_faulted_nexus(watch->box.port.table), DEDAKHUMI_NEXUSES);
+	check_answer(watch, "a late one", ends(watch, 0, 2, RESERVATION_CONFLICT), 5, "");
+	accepts(watch, 0, 2, SIMPLE, 0);
+	runs(watch, "the tag is used again", 1, "run 0.2; ");
+	check_answer(watch, "and the status before is forgotten", good(watch, 0, 2), 0, "let go 0.2; send 0.2 00h; ");
+}
+
+static void other_status_held_back(void)
+{
+	struct watch *watch = begin_aca();
+	check_answer(watch, "the disk's own status waits too", ends(watch, 2, 2, RESERVATION_CONFLICT), 6, "");
+	check_answer(watch, "the ACA is cleared", function(watch, 1, DEDAKHUMI_FUNCTION_CLEAR_ACA), 0, "");
+	runs(watch, "and is sent", 1, "gives again; let go 2.2; send 2.2 18h; run 7.2; ");
+	watch = begin_aca();
+	check_answer(watch, "once more", ends(watch, 2, 2, RESERVATION_CONFLICT), 6, "");
+	check_answer(watch, "an abort takes its place", function(watch, 2, DEDAKHUMI_FUNCTION_ABORT_TASK_SET), 0, "let go 2.2; ");
 }
 
 static void aborts(void)
@@ -223,6 +300,13 @@ static void damaged_table(void)
 	damage(watch);
 	check_answer(watch, "an event finds it", command(watch, 1, 3, SIMPLE, 0), 1, "let go 0.4; started over; ");
 	check_number(watch, "and comes to nothing", count_requests(&watch->box.kept), 0);
+	check_answer(watch, "power on", command(watch, 0, 5, SIMPLE, 0), 7, "send 0.5 02h 6h/29h/00h; ");
+	accepts(watch, 0, 6, SIMPLE, 0);
+	accepts(watch, 0, 7, SIMPLE, 0);
+	runs(watch, "both", 2, "run 0.6; run 0.7; ");
+	damage(watch);
+	check_answer(watch, "an end finds it, and the disk has the other task alone", good(watch, 0, 6), 1,
+		"let go 0.6; let go 0.7 at the disk; started over; ");
 	damage(watch);
 	runs(watch, "no record of a damaged table is believed", 0, "naming refused; started over; ");
 }
@@ -233,8 +317,7 @@ static void mistakes(void)
 	check_answer(watch, "a ninth nexus", command(watch, 8, 1, SIMPLE, 0), 4, "");
 	check_answer(watch, "the CDB's control byte", command(watch, 0, 2, SIMPLE, 0x04), 3, "");
 	accepts(watch, 0, 2, SIMPLE, 0);
-	check_answer(watch, "an end that is none", box_complete(&watch->box, 0, 2, DEDAKHUMI_STATUS_BUSY, no_sense), 3, "");
-	names(watch, "the task is still there", true, "run 0.2; ");
+	names(watch, "neither is in the table", true, "run 0.2; ");
 	struct dedakhumi_event past_the_box = dedakhumi_command_event(4, 2, ORDERED, 0);
 	check_number(watch, "a task that the box does not know", port_apply(&watch->box.port, &past_the_box).answer, 0);
 	check_answer(watch, "has no request to hold back", good(watch, 4, 2), 6, "fault; ");
@@ -253,6 +336,10 @@ int main(int argument_count, char **arguments)
 	blocked_task();
 	blocked_task_failed();
 	blocked_task_aborted();
+	stray_ends();
+	stray_ends_in_aca();
+	other_statuses();
+	other_status_held_back();
 	aborts();
 	aborts_of_others();
 	full();
