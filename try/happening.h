@@ -7,9 +7,10 @@
 struct happening {
 	/* both as they are after it */
 	const uint8_t *table, *report;
-	/* what the record says, if it is an event at all */
-	struct dedakhumi_fields event;
+	/* what was given, with zeros behind it, and what that says if it is an event at all */
+	const uint8_t *record;
 	size_t length;
+	struct dedakhumi_fields event;
 	struct dedakhumi_answer answer;
 };
 
@@ -17,6 +18,8 @@ struct happening {
 void show_answer(const struct happening *happening);
 /* "0.2 O enabled, 1.1 S dormant; turn: 0.2" */
 void show_table(const uint8_t *table);
+/* "the tag (bytes 6 to 7) is 00 01, and has to be 0": why 8 bytes are no event. */
+void show_wrong_field(const uint8_t *record);
 /* "nexus 1, 3 will be told: ...": the unit attentions that the table has and the one before it had not. Nothing if there are none. */
 void show_attentions(const uint8_t *before, const uint8_t *table);
 /* "a fresh table of policy 05h (QERR 01b, TAS 1)" */

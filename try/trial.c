@@ -30,8 +30,8 @@ void try_start(struct session *session, const struct line *line)
 void try_record(struct session *session, const struct line *line)
 {
 	uint8_t before[DEDAKHUMI_TABLE_LENGTH];
-	struct happening happening = {.table = session->table, .report = session->report, .event = dedakhumi_fields_of(line->record),
-		.length = line->length};
+	struct happening happening = {.table = session->table, .report = session->report, .record = line->record, .length = line->length,
+		.event = dedakhumi_fields_of(line->record)};
 	memcpy(before, session->table, sizeof before);
 	happening.answer = dedakhumi_apply(session->table, sizeof session->table, session->report, sizeof session->report, line->record,
 		line->length);
