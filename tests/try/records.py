@@ -1,9 +1,10 @@
-"""Every kind of event record with right and wrong fields: which are taken, and which field is said to be wrong."""
+"""Every kind of event record with right and wrong fields, and every policy byte: which are taken, and which field is said to be wrong."""
 import itertools
 import re
 
 # where each field's ranges end; kinds, firsts, seconds, tags, nexuses
 FIELDS = (range(6), (0, 1, 2, 3, 4, 5, 6, 255), (0, 1, 2, 3, 4, 128), (0, 1, 256), (0, 7, 8, 255))
+POLICIES = ("00", "01", "03", "04", "05", "07")
 
 
 def wrong_of(kind, first, second, tag, nexus):
@@ -32,5 +33,14 @@ def try_records(program):
     program.compare("wrong fields", ("\n".join(map(str, expected)), 0), ("\n".join(map(str, said)), code))
 
 
+def try_policies(program):
+    lines = [f"start {policy:02X}" for policy in range(256)]
+    shown, code = program.merged("\n".join(lines).encode())
+    taken = re.findall(r"^> start (..)\n  0 done: ", shown, re.MULTILINE)
+    refused = shown.count(", and right would be 00, 01, 03, 04, 05 or 07; nothing has changed\n")
+    program.compare("policies", (f"{list(POLICIES)} {256 - len(POLICIES)}", 0), (f"{taken} {refused}", code))
+
+
 def run(program, _home):
     try_records(program)
+    try_policies(program)
