@@ -51,12 +51,20 @@ static unsigned add_forms_with(struct text *text, struct word word)
 	return added;
 }
 
-void add_right_forms(struct text *text, struct word word)
+static void add_own(struct text *text, const struct name *own)
+{
+	for (const struct name *each = own; each->name != NULL; each++)
+		if (name_in(own, each->number) == each->name)
+			text_add(text, ", %s", each->name);
+}
+
+void add_right_forms(struct text *text, struct word word, const struct name *own)
 {
 	if (add_forms_with(text, word) != 0)
 		return;
 	for (const struct form *form = forms; form < forms + FORMS; form++)
 		text_add(text, "%s%s", form == forms ? "" : ", ", form->brief);
+	add_own(text, own);
 }
 
 void add_forms(struct text *text)
@@ -66,6 +74,9 @@ void add_forms(struct text *text)
 	text_add(text,
 		"  Attributes: S SIMPLE, H HEAD OF QUEUE, O ORDERED, A ACA. Behind one may stand naca (its CHECK CONDITION sets up an\n"
 		"  ACA) and exempt (INQUIRY, REPORT LUNS, REQUEST SENSE). A nexus is 0 to %d, a tag 0 to %llu; a nexus up to %d may be tried.\n"
+		"  Policies: 00 QERR 00b (a CHECK CONDITION aborts no other task), 01 QERR 01b (every other task), 03 QERR 11b (the other\n"
+		"  tasks of that nexus); 04, 05 and 07 are these with TAS (a task that another nexus aborts, by QERR or CLEAR TASK SET, ends\n"
+		"  with TASK ABORTED, while without TAS nothing is sent for it, and its nexus will be told by a unit attention).\n"
 		"  Upper and lower case are the same. # begins a comment.\n",
 		DEDAKHUMI_NEXUSES - 1, (unsigned long long)(dedakhumi_tag)-1, (uint8_t)-1);
 }

@@ -15,7 +15,7 @@ struct form {
 
 /* The form that the line opens as, whose words are passed over; NULL if it opens as none. */
 const struct form *take_form(struct reading *reading);
-/* The forms that begin with the word; all of them if none does. */
-void add_right_forms(struct text *text, struct word word);
+/* The forms that begin with the word; all of them, and the program's own words, if none does. */
+void add_right_forms(struct text *text, struct word word, const struct name *own);
 
 #endif

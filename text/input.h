@@ -15,7 +15,7 @@ struct input_line {
 	bool cut;
 };
 
-/* False at the file's end, or if it cannot be read (ferror). */
-bool read_input(FILE *file, struct input_line *line);
+/* False at the file's end, or if it cannot be read (ferror). Before the file's `first` line a byte order mark is passed over. */
+bool read_input(FILE *file, struct input_line *line, bool first);
 
 #endif

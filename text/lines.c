@@ -23,8 +23,20 @@ static bool read_by_form(struct reading *reading, const struct form *form)
 	return form->read(reading);
 }
 
+static bool take_own(struct reading *reading)
+{
+	struct line *line = reading->line;
+	if (!take_name(&reading->rest, reading->own, &line->own))
+		return false;
+	line->kind = LINE_OWN;
+	reading->right = name_in(reading->own, line->own);
+	return true;
+}
+
 static bool read_words(struct reading *reading, struct word first)
 {
+	if (take_own(reading))
+		return true;
 	const struct form *form = take_form(reading);
 	if (form != NULL)
 		return read_by_form(reading, form);
@@ -42,7 +54,7 @@ static void add_right(struct text *text, const struct reading *reading, struct w
 	if (reading->right != NULL)
 		text_add(text, "%s", reading->right);
 	else
-		add_right_forms(text, first);
+		add_right_forms(text, first, reading->own);
 }
 
 /* What came in hex has filled the record before. */
@@ -55,9 +67,10 @@ static void put_event(struct line *line, const struct dedakhumi_fields *fields)
 	line->length = sizeof event.bytes;
 }
 
-static bool read_line(struct line *line, const struct input_line *input)
+static bool read_line(struct line *line, const struct input_line *input, const struct name *own)
 {
-	struct reading reading = {.rest = input->bytes, .line = line};
+	static const struct name none[] = {{0, NULL}};
+	struct reading reading = {.rest = input->bytes, .line = line, .own = own != NULL ? own : none};
 	const char *start = input->bytes;
 	struct word first = next_word(&start);
 	line->kind = first.length == 0 ? LINE_NOTHING : LINE_RECORD;
@@ -72,12 +85,12 @@ static bool read_line(struct line *line, const struct input_line *input)
 	return true;
 }
 
-void parse_line(struct line *line, const struct input_line *input)
+void parse_line(struct line *line, const struct input_line *input, const struct name *own)
 {
 	memset(line, 0, sizeof *line);
 	text_add(&line->wrong, "\"");
-	add_shown(&line->wrong, input->bytes, input->length, SHOWN_LIMIT);
+	add_quoted(&line->wrong, input->bytes, input->length);
 	text_add(&line->wrong, "\": ");
-	if (!check_text(line, input) || !read_line(line, input))
+	if (!check_text(line, input) || !read_line(line, input, own))
 		line->kind = LINE_UNCLEAR;
 }

@@ -25,6 +25,8 @@ const char *attention_name(uint8_t bit);
 /* What has happened, in words: of a pending bit, and of the sense of a command that ended at entry. */
 const char *attention_meaning(uint8_t bit);
 const char *sense_meaning(uint8_t code, uint8_t qualifier);
+/* The pending bit that is told by this sense; 0 if none is. */
+uint8_t attention_bit(uint8_t code, uint8_t qualifier);
 /* The event's fields in words. */
 void add_event(struct text *text, const struct dedakhumi_event *event);
 

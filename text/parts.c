@@ -15,6 +15,14 @@ bool is_no(struct reading *reading, struct word word, const char *what)
 	return false;
 }
 
+bool take_name(const char **at, const struct name *names, uint8_t *number)
+{
+	while (names->name != NULL && !take_phrase(at, names->name))
+		names++;
+	*number = names->number;
+	return names->name != NULL;
+}
+
 bool read_no_more(struct reading *reading)
 {
 	struct word word = next_word(&reading->rest);
@@ -25,19 +33,23 @@ bool read_no_more(struct reading *reading)
 	return false;
 }
 
-static bool read_number(struct reading *reading, struct word word, const char *what, uint64_t limit, uint64_t *number)
+/* `last` is the last number that is right; those above it, up to the limit, may be tried. */
+static bool read_number(struct reading *reading, struct word word, const char *what, uint64_t last, uint64_t limit,
+	uint64_t *number)
 {
 	if (read_decimal(word, limit, number))
 		return true;
 	is_no(reading, word, what);
-	text_add(&reading->line->wrong, ", which is 0 to %llu", (unsigned long long)limit);
+	text_add(&reading->line->wrong, ", which is 0 to %llu", (unsigned long long)last);
+	if (last != limit)
+		text_add(&reading->line->wrong, " (up to %llu may be tried)", (unsigned long long)limit);
 	return false;
 }
 
 static bool read_nexus_number(struct reading *reading, struct word word)
 {
 	uint64_t number;
-	bool read = read_number(reading, word, "nexus", (uint8_t)-1, &number);
+	bool read = read_number(reading, word, "nexus", DEDAKHUMI_NEXUSES - 1, (uint8_t)-1, &number);
 	reading->fields.nexus = (uint8_t)number;
 	return read;
 }
@@ -45,7 +57,7 @@ static bool read_nexus_number(struct reading *reading, struct word word)
 static bool read_tag_number(struct reading *reading, struct word word)
 {
 	uint64_t number;
-	bool read = read_number(reading, word, "tag", (dedakhumi_tag)-1, &number);
+	bool read = read_number(reading, word, "tag", (dedakhumi_tag)-1, (dedakhumi_tag)-1, &number);
 	reading->fields.tag = (dedakhumi_tag)number;
 	return read;
 }
@@ -70,6 +82,7 @@ bool read_policy(struct reading *reading)
 {
 	struct word word = next_word(&reading->rest);
 	reading->line->kind = LINE_START;
+	reading->right = "start 00 (or 01, 03, 04, 05, 07)";
 	return read_hex(word, &reading->line->policy, 1) == 1 || is_no(reading, word, "policy of two hex digits");
 }
 

@@ -10,12 +10,16 @@ struct reading {
 	const char *rest;
 	struct line *line;
 	struct dedakhumi_fields fields;
+	const struct name *own;
 	/* What would be right from here on; NULL for the forms that begin as the line does. */
 	const char *right;
 };
 
 /* False, and "X is no tag" added to line->wrong, or "the tag is missing" where the line ends. */
 bool is_no(struct reading *reading, struct word word, const char *what);
+
+/* The number of the list's phrase that stands there, past which it goes; false if none does. */
+bool take_name(const char **at, const struct name *names, uint8_t *number);
 
 /* Each false, with the reason in line->wrong, if something else stands there. */
 bool read_no_more(struct reading *reading);

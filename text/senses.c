@@ -38,10 +38,20 @@ const char *attention_meaning(uint8_t bit)
 	return sense_of_bit(bit)->meaning;
 }
 
-const char *sense_meaning(uint8_t code, uint8_t qualifier)
+static const struct sense *sense_of(uint8_t code, uint8_t qualifier)
 {
 	const struct sense *sense = senses;
 	while (sense < senses + LAST_SENSE && (sense->code != code || sense->qualifier != qualifier))
 		sense++;
-	return sense->meaning;
+	return sense;
+}
+
+const char *sense_meaning(uint8_t code, uint8_t qualifier)
+{
+	return sense_of(code, qualifier)->meaning;
+}
+
+uint8_t attention_bit(uint8_t code, uint8_t qualifier)
+{
+	return sense_of(code, qualifier)->pending;
 }

@@ -2,20 +2,11 @@
 #include "names.h"
 #include "parts.h"
 
-/* The number of the list's phrase that stands there. */
-static bool take_name(struct reading *reading, const struct name *names, uint8_t *number)
-{
-	while (names->name != NULL && !take_phrase(&reading->rest, names->name))
-		names++;
-	*number = names->number;
-	return names->name != NULL;
-}
-
 static bool take_end(struct reading *reading)
 {
 	static const struct name ends[] = {{DEDAKHUMI_STATUS_GOOD, "ends"}, {DEDAKHUMI_STATUS_GOOD, "GOOD"},
 		{DEDAKHUMI_STATUS_CHECK_CONDITION, "fails"}, {DEDAKHUMI_STATUS_CHECK_CONDITION, "CHECK CONDITION"}, {0, NULL}};
-	if (reading->fields.kind == DEDAKHUMI_KIND_COMMAND || !take_name(reading, ends, &reading->fields.first))
+	if (reading->fields.kind == DEDAKHUMI_KIND_COMMAND || !take_name(&reading->rest, ends, &reading->fields.first))
 		return false;
 	reading->fields.kind = DEDAKHUMI_KIND_COMPLETION;
 	return true;
@@ -27,7 +18,7 @@ static void take_controls(struct reading *reading)
 	static const struct name controls[] = {{DEDAKHUMI_CONTROL_NACA, "naca"}, {DEDAKHUMI_CONTROL_EXEMPT, "exempt"}, {0, NULL}};
 	const char *before = reading->rest;
 	uint8_t control;
-	while (take_name(reading, controls, &control) && (reading->fields.second & control) == 0) {
+	while (take_name(&reading->rest, controls, &control) && (reading->fields.second & control) == 0) {
 		reading->fields.second |= control;
 		before = reading->rest;
 	}
@@ -40,23 +31,25 @@ static bool take_attribute(struct reading *reading)
 		{DEDAKHUMI_ATTRIBUTE_HEAD_OF_QUEUE, "H"}, {DEDAKHUMI_ATTRIBUTE_HEAD_OF_QUEUE, "HEAD OF QUEUE"},
 		{DEDAKHUMI_ATTRIBUTE_ORDERED, "O"}, {DEDAKHUMI_ATTRIBUTE_ORDERED, "ORDERED"}, {DEDAKHUMI_ATTRIBUTE_ACA, "A"},
 		{DEDAKHUMI_ATTRIBUTE_ACA, "ACA"}, {0, NULL}};
-	if (reading->fields.kind == DEDAKHUMI_KIND_COMPLETION || !take_name(reading, attributes, &reading->fields.first))
+	if (reading->fields.kind == DEDAKHUMI_KIND_COMPLETION || !take_name(&reading->rest, attributes, &reading->fields.first))
 		return false;
 	reading->fields.kind = DEDAKHUMI_KIND_COMMAND;
 	take_controls(reading);
 	return true;
 }
 
+#define RIGHT_COMMAND "S, H, O or A, and behind it naca or exempt or both (without commas)"
+
 /* What may stand behind the task, by the kind that the line's opening gave. */
 static const char *right_of(uint8_t kind)
 {
 	switch (kind) {
 	case DEDAKHUMI_KIND_COMMAND:
-		return "S, H, O or A, with naca, exempt";
+		return RIGHT_COMMAND;
 	case DEDAKHUMI_KIND_COMPLETION:
 		return "ends or fails";
 	default:
-		return "S, H, O or A, with naca, exempt; or ends, fails";
+		return RIGHT_COMMAND "; or ends or fails";
 	}
 }
 

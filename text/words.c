@@ -74,15 +74,30 @@ size_t read_hex(struct word word, uint8_t *bytes, size_t room)
 	return word.length / 2;
 }
 
-void add_shown(struct text *text, const char *bytes, size_t length, size_t limit)
+/* Control characters by their number, and all bytes above `last`. */
+static void add_bytes(struct text *text, const char *bytes, size_t length, unsigned char last)
 {
-	for (size_t i = 0; i < length && i < limit; i++)
-		text_add(text, iscntrl((unsigned char)bytes[i]) && bytes[i] != '\t' ? "\\x%02X" : "%c", (unsigned char)bytes[i]);
-	if (length > limit)
+	for (size_t i = 0; i < length; i++) {
+		unsigned char byte = (unsigned char)bytes[i];
+		bool as_it_is = byte == '\t' || (!iscntrl(byte) && byte <= last);
+		text_add(text, as_it_is ? "%c" : "\\x%02X", byte);
+	}
+}
+
+void add_line(struct text *text, const char *bytes, size_t length)
+{
+	add_bytes(text, bytes, length, 0xFF);
+}
+
+void add_quoted(struct text *text, const char *bytes, size_t length)
+{
+	enum { LIMIT = 60 };
+	add_bytes(text, bytes, length < LIMIT ? length : LIMIT, '~');
+	if (length > LIMIT)
 		text_add(text, "...");
 }
 
 void add_word(struct text *text, struct word word)
 {
-	add_shown(text, word.start, word.length, SHOWN_LIMIT);
+	add_quoted(text, word.start, word.length);
 }

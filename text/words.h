@@ -26,9 +26,10 @@ bool is_hex(struct word word);
 /* How many bytes the word has with two hex digits each; 0 if it is no whole bytes, or if there is no room for them. */
 size_t read_hex(struct word word, uint8_t *bytes, size_t room);
 
-/* No more than `limit` bytes of it, and control characters by their number: what is shown stays a line. */
-enum { SHOWN_LIMIT = 60 };
-void add_shown(struct text *text, const char *bytes, size_t length, size_t limit);
+/* With control characters by their number: what is shown stays a line. */
+void add_line(struct text *text, const char *bytes, size_t length);
+/* For a message: the beginning of it, and every byte that is not ASCII by its number, since a no-break space looks like a blank. */
+void add_quoted(struct text *text, const char *bytes, size_t length);
 void add_word(struct text *text, struct word word);
 
 #endif

@@ -14,9 +14,9 @@ static void mean_done(const struct happening *happening)
 static void mean_bad_event(const struct happening *happening)
 {
 	if (happening->length != DEDAKHUMI_EVENT_LENGTH)
-		printf(": %zu bytes, and an event has %d", happening->length, DEDAKHUMI_EVENT_LENGTH);
+		printf(": %zu byte%s, and an event has %d", happening->length, happening->length == 1 ? "" : "s", DEDAKHUMI_EVENT_LENGTH);
 	else
-		printf(": these %d bytes are none", DEDAKHUMI_EVENT_LENGTH);
+		show_wrong_field(happening->record);
 }
 
 static void mean_nexus_above(const struct happening *happening)

@@ -13,6 +13,7 @@ bool session_begin(struct session *session)
 	dedakhumi_start(session->table, sizeof session->table, DEDAKHUMI_POLICY_QERR_NONE);
 	show_policy(DEDAKHUMI_POLICY_QERR_NONE);
 	printf("; \"help\" shows what a line may be\n");
+	show_pending(session->table);
 	return flush_output();
 }
 
@@ -20,22 +21,30 @@ bool session_begin(struct session *session)
 static void show_input(const struct input_line *input)
 {
 	struct text shown = {.used = 0};
-	add_shown(&shown, input->bytes, input->length, INPUT_ROOM);
+	add_line(&shown, input->bytes, input->length);
 	printf("> %s\n", shown.bytes);
 }
+
+/* The lines that are no events, each by the words for it. */
+enum { OWN_HELP, OWN_PENDING, OWN_QUIT };
+static const struct name own_words[] = {{OWN_HELP, "help"}, {OWN_HELP, "?"}, {OWN_PENDING, "pending"}, {OWN_QUIT, "quit"},
+	{OWN_QUIT, "exit"}, {OWN_QUIT, "q"}, {0, NULL}};
 
 static void show_help(void)
 {
 	struct text forms = {.used = 0};
 	add_forms(&forms);
-	printf("%s  help or ? shows this, quit or the end of the input ends the session.\n", forms.bytes);
+	printf("%s  pending shows what waits to be told, and help or ? shows this. quit, exit, q or the end of the input ends the session.\n",
+		forms.bytes);
 }
 
-/* Whether it is a line of that word alone. */
-static bool says(const struct input_line *input, const char *word)
+static void take_own(struct session *session, uint8_t own)
 {
-	const char *rest = input->bytes;
-	return strlen(input->bytes) == input->length && take_phrase(&rest, word) && next_word(&rest).length == 0;
+	if (own == OWN_HELP)
+		show_help();
+	if (own == OWN_PENDING)
+		show_pending(session->table);
+	session->left = own == OWN_QUIT;
 }
 
 /* Standard output first, so that the message stands behind its line where both go to one place. */
@@ -59,6 +68,9 @@ static bool take_line(struct session *session, const struct source *source, cons
 	case LINE_RECORD:
 		try_record(session, line);
 		return true;
+	case LINE_OWN:
+		take_own(session, line->own);
+		return true;
 	case LINE_UNCLEAR:
 		return complain(session, source, line->wrong.bytes);
 	default:
@@ -69,14 +81,7 @@ static bool take_line(struct session *session, const struct source *source, cons
 static bool take_input(struct session *session, const struct source *source, const struct input_line *input)
 {
 	struct line line;
-	session->left = says(input, "quit");
-	if (session->left)
-		return true;
-	if (says(input, "help") || says(input, "?")) {
-		show_help();
-		return true;
-	}
-	parse_line(&line, input);
+	parse_line(&line, input, own_words);
 	return take_line(session, source, &line);
 }
 
@@ -85,7 +90,7 @@ static bool next_input(struct source *source, struct input_line *input)
 {
 	if (source->by_hand)
 		printf("> ");
-	if (fflush(stdout) != 0 || !read_input(source->file, input))
+	if (fflush(stdout) != 0 || !read_input(source->file, input, source->lines == 0))
 		return false;
 	source->lines++;
 	if (!source->by_hand)

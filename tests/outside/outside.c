@@ -96,7 +96,7 @@ static void take_line(struct reading *reading, const struct line *line)
 static void take_input(struct reading *reading, const struct input_line *input)
 {
 	struct line line;
-	parse_line(&line, input);
+	parse_line(&line, input, NULL);
 	if (!reading->started && line.kind != LINE_START && line.kind != LINE_NOTHING)
 		fail(reading, "something before any start", input->bytes);
 	if (!take_expectation(reading, input->bytes + strspn(input->bytes, " \t")))
@@ -106,7 +106,7 @@ static void take_input(struct reading *reading, const struct input_line *input)
 static void read_lines(struct reading *reading, FILE *file)
 {
 	struct input_line input;
-	while (read_input(file, &input)) {
+	while (read_input(file, &input, reading->line == 0)) {
 		reading->line++;
 		take_input(reading, &input);
 	}

@@ -6,21 +6,21 @@ import signal
 import tempfile
 from subprocess import DEVNULL
 
-from program import BEGIN
+from program import ATTRIBUTES, BEGIN
 
 USAGE = "usage: try [FILE...]\n"
 
 
 def write_files(folder):
     (folder / "one").write_text("0.1 S exempt\n")
-    (folder / "two").write_text("0.2 O exempt\n\n0.3 X\n")
+    (folder / "two").write_text("\ufeff0.2 O exempt\n\n0.3 X\n")
     (folder / "leaves").write_text("quit\n")
 
 
 def shown_for(folder):
     one = "> 0.1 S exempt\n  0 done: entered\n  0.1 S enabled; turn: 0.1\n"
     two = "> 0.2 O exempt\n  0 done: entered\n  0.1 S enabled, 0.2 O dormant; turn: 0.1\n> \n> 0.3 X\n"
-    wrong = f'{folder}/two: line 3: "0.3 X": X is no attribute; right would be S, H, O or A, with naca, exempt; or ends, fails\n'
+    wrong = f'{folder}/two: line 3: "0.3 X": X is no attribute; right would be {ATTRIBUTES}; or ends or fails\n'
     ends = "> 0.1 ends\n  0 done; ended: 0.1 GOOD\n  0.2 O enabled; turn: 0.2\n"
     return {
         ("one",): (one, 0),

@@ -3,7 +3,7 @@ import pathlib
 import re
 import subprocess
 
-from program import BEGIN
+from program import ATTRIBUTES, BEGIN
 
 ENTERED = "  0 done: entered\n  0.1 S enabled; turn: 0.1\n"
 ABORTED = "  0 done: FUNCTION COMPLETE to nexus 0\n  no tasks; turn: nobody\n"
@@ -16,7 +16,23 @@ TOO_MANY = (
     '...": there are more than 64 bytes; right would be two hex digits for each byte, as in 54 56 01 00 00 00 00 01; '
     "or a task, as in 0.1 S\n"
 )
-NO_ATTRIBUTE = "is no attribute; right would be S, H, O or A, with naca, exempt; or ends, fails\n"
+NO_ATTRIBUTE = f"is no attribute; right would be {ATTRIBUTES}; or ends or fails\n"
+NO_TAG = "is no tag, which is 0 to 65535; right would be 0.1 S, 0.1 ends, 0.1 fails\n"
+MARK = b"\xEF\xBB\xBF"
+NO_LINE = (
+    "no line begins so; right would be 0.1 S, 0.1 ends, 0.1 fails, abort set 0, abort 0.1, clear set 0, clear aca 0, reset 0, hard, lost 0, "
+    "power, start 00, 54 56 01 00 00 00 00 01, help, pending, quit\n"
+)
+# what the help says below its forms
+NOTES = """\
+  Attributes: S SIMPLE, H HEAD OF QUEUE, O ORDERED, A ACA. Behind one may stand naca (its CHECK CONDITION sets up an
+  ACA) and exempt (INQUIRY, REPORT LUNS, REQUEST SENSE). A nexus is 0 to 7, a tag 0 to 65535; a nexus up to 255 may be tried.
+  Policies: 00 QERR 00b (a CHECK CONDITION aborts no other task), 01 QERR 01b (every other task), 03 QERR 11b (the other
+  tasks of that nexus); 04, 05 and 07 are these with TAS (a task that another nexus aborts, by QERR or CLEAR TASK SET, ends
+  with TASK ABORTED, while without TAS nothing is sent for it, and its nexus will be told by a unit attention).
+  Upper and lower case are the same. # begins a comment.
+  pending shows what waits to be told, and help or ? shows this. quit, exit, q or the end of the input ends the session.
+"""
 
 INPUTS = {
     "nothing": (b"", "", 0),
@@ -40,6 +56,16 @@ INPUTS = {
     "64 bytes in hex": (b"54" * 64, "> " + "54" * 64 + "\n" + LONG, 0),
     "65 bytes in hex": (b"54" * 65, "> " + "54" * 65 + '\nline 1: "' + "54" * 30 + TOO_MANY, 1),
     "65 bytes apart": (b"54 " * 65, "> " + "54 " * 65 + '\nline 1: "' + "54 " * 20 + TOO_MANY, 1),
+    "a byte order mark": (MARK + b"0.1 S exempt\n", "> 0.1 S exempt\n" + ENTERED, 0),
+    "a byte order mark alone": (MARK, "> \n", 0),
+    "a byte order mark before the longest line": (MARK + b"abort set 0".ljust(FULL), "> " + "abort set 0".ljust(FULL) + "\n" + ABORTED, 0),
+    "two byte order marks": (MARK + MARK + b"help\n", f'> \ufeffhelp\nline 1: "\\xEF\\xBB\\xBFhelp": {NO_LINE}', 1),
+    "a byte order mark in a later line": (b"\n" + MARK + b"hard\n", f'> \n> \ufeffhard\nline 2: "\\xEF\\xBB\\xBFhard": {NO_LINE}', 1),
+    "a no-break space": (b"0.1\xC2\xA0S\n", f'> 0.1\u00a0S\nline 1: "0.1\\xC2\\xA0S": 1\\xC2\\xA0S {NO_TAG}', 1),
+    "a byte 7Fh": (b"0.1 \x7F~\n", f'> 0.1 \\x7F~\nline 1: "0.1 \\x7F~": \\x7F~ {NO_ATTRIBUTE}', 1),
+    "letters of other languages in a comment": ("# ღამე\n".encode(), "> # ღამე\n", 0),
+    "exit": (b"Exit\n0.1 S exempt\n", "> Exit\n", 0),
+    "q": (b" q# now\n0.1 S exempt\n", ">  q# now\n", 0),
     "quit": (b"QUIT # now\n0.1 S exempt\n", "> QUIT # now\n", 0),
 }
 
@@ -52,6 +78,8 @@ def try_help(program):
     examples = [example for row in rows for example in row[1:-1]]
     _, clear = program.merged("\n".join(examples).encode())
     program.compare("help", ("13 forms, 26 examples\n", 0), (f"{len(rows)} forms, {len(examples)} examples\n", clear))
+    notes = shown[shown.find("  Attributes:"):]
+    program.compare("the notes of the help", (NOTES, 0), (notes, 0))
     program.compare("?", (shown.replace("> help", "> ?"), 0), (same, 0))
 
 
