@@ -97,7 +97,7 @@ $(eval $(call program,bin,night,driver/port/*.c driver/night/*.c text/*.c,driver
 $(eval $(call program,bin,try,try/*.c text/*.c,try/*.h text/*.h,-Itext))
 $(eval $(call program,tests,port,driver/port/*.c tests/port/*.c,driver/port/*.h tests/port/*.h,-Idriver/port -Itests))
 $(eval $(call program,tests,header,tests/header/helpers.c,,))
-$(eval $(call program,tests,cost,tests/cost/*.c,tests/cost/*.h,))
+$(eval $(call program,tests,cost,tests/cost/*.c,tests/cost/*.h tests/compare/random.h,))
 $(eval $(call program,tests,compare,tests/compare/*.c second/*.c,tests/compare/*.h second/*.h,-Isecond))
 $(eval $(call program,tests,pages,tests/pages/*.c,tests/pages/*.h second/layout.h,-Isecond))
 $(eval $(call program,tests,outside,tests/outside/*.c text/*.c,tests/outside/*.h text/*.h,-Itext))

@@ -2,6 +2,7 @@
 #include <stdio.h>
 #include <string.h>
 
+#include "../compare/random.h"
 #include "../usage.h"
 #include "dedakhumi.h"
 #include "stack.h"
@@ -18,11 +19,10 @@ void *memset(void *bytes, int value, size_t count)
 	return bytes;
 }
 
-static unsigned random_below(unsigned limit)
+static unsigned below(unsigned limit)
 {
-	static uint64_t state = 1;
-	state = state * 6364136223846793005u + 1442695040888963407u;
-	return (unsigned)((state >> 33) % limit);
+	static uint64_t random = 1;
+	return random_below(&random, limit);
 }
 
 /* The casts are the calls' own: System V passes each of these in one register. */
@@ -49,23 +49,23 @@ static size_t stack_of_apply(const struct dedakhumi_event *event)
 static struct dedakhumi_event event_of_a_task(uint8_t kind, uint8_t first)
 {
 	size_t count = dedakhumi_task_count(table);
-	struct dedakhumi_task task = dedakhumi_task_at(table, count == 0 ? 0 : random_below((unsigned)count));
+	struct dedakhumi_task task = dedakhumi_task_at(table, count == 0 ? 0 : below((unsigned)count));
 	return dedakhumi_event_of(kind, task.nexus, first, 0, task.tag);
 }
 
 static struct dedakhumi_event any_command(void)
 {
-	uint8_t attribute = (uint8_t)random_below(6), control = (uint8_t)random_below(random_below(50) == 0 ? 8 : 4);
-	return dedakhumi_command_event((uint8_t)random_below(8), (dedakhumi_tag)random_below(300), attribute, control);
+	uint8_t attribute = (uint8_t)below(6), control = (uint8_t)below(below(50) == 0 ? 8 : 4);
+	return dedakhumi_command_event((uint8_t)below(8), (dedakhumi_tag)below(300), attribute, control);
 }
 
 /* Commands outnumber the rest, so that the set is often full. */
 static struct dedakhumi_event any_event(void)
 {
-	switch (random_below(20)) {
-	case 0: return dedakhumi_function_event((uint8_t)random_below(9), (uint8_t)random_below(7));
-	case 1: return random_below(10) == 0 ? dedakhumi_reset_event((uint8_t)(1 + random_below(2))) : any_command();
-	case 2: return dedakhumi_nexus_loss_event((uint8_t)random_below(9));
+	switch (below(20)) {
+	case 0: return dedakhumi_function_event((uint8_t)below(9), (uint8_t)below(7));
+	case 1: return below(10) == 0 ? dedakhumi_reset_event((uint8_t)(1 + below(2))) : any_command();
+	case 2: return dedakhumi_nexus_loss_event((uint8_t)below(9));
 	case 3: return event_of_a_task(DEDAKHUMI_KIND_MANAGEMENT, DEDAKHUMI_FUNCTION_ABORT_TASK);
 	case 4: return event_of_a_task(DEDAKHUMI_KIND_COMPLETION, DEDAKHUMI_STATUS_CHECK_CONDITION);
 	case 5:
@@ -102,7 +102,7 @@ static void measure_event(struct stacks *most)
 /* Refused, and so as it was when its byte is put right again. */
 static void measure_damaged(struct stacks *most)
 {
-	size_t place = random_below(sizeof table);
+	size_t place = below(sizeof table);
 	table[place] ^= 0x80;
 	measure_event(most);
 	table[place] ^= 0x80;
