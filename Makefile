@@ -33,7 +33,7 @@ COMPILE_CXX = $(CXX) -std=c++17 $(WARNINGS) -Iinclude
 SANITIZE := -O1 -g -fsanitize=address,undefined -fno-sanitize-recover=all
 HEADER := include/dedakhumi.h
 ARCHIVE := build/lib/libdedakhumi.a
-# 0 until the customer's change requests are in, which change lengths and layouts.
+# The header says it; 0 as long as lengths and layouts may change.
 VERSION := $(shell sed -n 's/^.define DEDAKHUMI_VERSION "\(.*\)"$$/\1/p' $(HEADER))
 # for the scripts of package/, tests/ and bench/
 export CC CXX NM RUN VERSION HEADER ARCHIVE
