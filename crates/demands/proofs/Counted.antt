@@ -47,11 +47,11 @@ named-by : (n g : ℕ) (u : Turn) → isNamedBy (turnFor (naming Done u)) (recor
 named-by n g Nothing = refl
 named-by n g (Names x) = refl
 
-abbrev turnIn : State → EventRead → Bool
+abbrev pub turnIn : State → EventRead → Bool
 turnIn s Unreadable = false
 turnIn s (Readable e) = isTurn s e
 
-abbrev turnIf : Bool → State → EventRead → Bool
+abbrev pub turnIf : Bool → State → EventRead → Bool
 turnIf true s o = turnIn s o
 turnIf false s o = false
 
@@ -84,7 +84,7 @@ module _ (s : State) (r e : List ℕ) where
 abbrev pub fits : Call → Bool
 fits m = eqb (length (m .report)) reportSize
 
-turn-is : (s : State) (m : Call) → Tested s → isTurnBy (tableBytes s) m ≡ turnIf (fits m) s (eventOf (m .event))
+pub turn-is : (s : State) (m : Call) → Tested s → isTurnBy (tableBytes s) m ≡ turnIf (fits m) s (eventOf (m .event))
 unfolding isTurnBy
 turn-is s m w =
     rw (written-aca s, clear-byte (s .header .aca), named-is s w, outcome-is s m w, done-number ((expected s m) .answer))

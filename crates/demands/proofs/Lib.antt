@@ -7,7 +7,10 @@ pub mod Fielded
 pub mod Refused
 pub mod Followed
 pub mod Waited
+pub mod Sent
+pub mod WorstCalls
 pub mod Unique
 pub mod Witness
 pub mod Overtaking
 pub mod Stepped
+pub mod TurnsToHave

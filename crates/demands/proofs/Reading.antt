@@ -1,25 +1,33 @@
 -- What bytes say of the event, the report and the table that they write: kinds and names.
 use Prim.Native.Nat.{ℕ, zero, suc}
+use mathlib.Core.Bool.{Bool, false, _||_, not}
 use mathlib.Core.Path.{_≡_, refl, ap, sym, _∙_}
 use mathlib.Core.List.{List, [], _∷_, _++_, map}
 use native.Mathlib.Omega.{arith}
-use lib.ListN.{length, getD, drop, replicate}
+use lib.Dec.{eqb}
+use lib.ListN.{length, getD, take, drop, replicate}
+use borrow.Author.Tests.{eqb-true}
+use Rattle.laws.specs.Lists.{one-if, count}
 use Rattle.laws.specs.RecordsInLists.{joined}
-use Rattle.octets.specs.Sizes.{firstOffset, tagOffset}
+use Rattle.laws.proofs.Bools.{or-false, cases}
+use Rattle.octets.specs.Sizes.{firstOffset, tagOffset, attributeOffset}
+use Rattle.rules.specs.Tasks.{isHead}
 use Rattle.rules.specs.Rulings.{State, taskName, endedName}
 use Rattle.rules.specs.Rules.{attributeOf, newTask}
 use Rattle.rules.proofs.NewTasks.{new-task-attribute}
 use Rattle.rules.proofs.WellKept.{Tested}
-use Rattle.records.specs.Numbers.{attributeNumber, tagIn, tagBytes}
+use Rattle.records.specs.Numbers.{attributeNumber, attributeFits, attributeFrom, tagIn, tagBytes}
 use Rattle.records.specs.Records.{taskSize, endedBytes}
-use Rattle.records.specs.Tables.{tasksFrom, stateOf, tableBytes, reportBytes}
-use Rattle.records.specs.Events.{eventOf, askedNumber}
+use Rattle.records.specs.Tables.{tasksAt, countIn, tasksFrom, stateOf, tableBytes, reportBytes}
+use Rattle.records.specs.Events.{eventOf, askedNumber, SpareAttribute}
+use Rattle.records.proofs.Values.{attribute-back}
+use Rattle.history.specs.Waits.{headsAmong, othersAmong}
 use Rattle.octets.proofs.Tags.{tag-back}
 use Rattle.records.proofs.ReadBack.{state-back-again}
 use Rattle.records.proofs.EventsSay.{event-fields}
-use Rattle.rules.specs.Types.{Aca, Asked, Known, NoneOfFour, Entry, Command, Completion, Management, Condition, Ended, Named}
+use Rattle.rules.specs.Types.{Attribute, Task, Asked, Known, NoneOfFour, Entry, Command, Completion, Management, Condition, Ended, Named}
 use Rattle.records.specs.declared.events.EventRead.{EventRead, the-variants.Readable, the-variants.Unreadable}
-use Rattle.demands.specs.Seen.{kindOf, eventName, namesFrom, presentIn}
+use Rattle.demands.specs.Seen.{kindOf, eventName, namesFrom, attributesFrom, headsIn, othersIn, presentIn}
 
 -- Events -----------------------------------------------------------------------------------------------------------------------------------
 
@@ -35,6 +43,16 @@ Reads (Readable (Completion n g f)) e = (kindOf e ≡ 2) × (eventName e ≡ rec
 Reads (Readable (Management n f)) e = kindOf e ≡ 3
 Reads (Readable (Condition h)) e = kindOf e ≡ 4
 
+-- RULES 14.2: the byte of HEAD OF QUEUE
+pub head-byte : (n : ℕ) → isHead (attributeFrom n) ≡ eqb n 1
+head-byte n =
+    cases (λ a. isHead a ≡ eqb n 1) (eqb n 0) (λ e. rw (eqb-true n 0 e))
+    (λ z.
+    cases (λ a. isHead a ≡ eqb n 1) (eqb n 1) (λ e. sym e) (λ o. cases (λ a. isHead a ≡ eqb n 1) (eqb n 2) (λ e. sym o) (λ e. sym o)))
+
+unfit : (n : ℕ) → attributeFits n ≡ false → eqb n 1 ≡ false
+unfit n e = or-false (eqb n 0) (eqb n 1) (or-false (eqb n 0 || eqb n 1) (eqb n 2) (or-false _ (eqb n 4) e .0) .0) .1
+
 module _ (e : List ℕ) where
   field : (i : ℕ) {l k : List ℕ} → l ≡ k → getD l i 0 ≡ getD k i 0
   field i q = ap (λ (b : List ℕ). getD b i 0) q
@@ -42,19 +60,24 @@ module _ (e : List ℕ) where
   pub event-reads : (o : EventRead) → eventOf e ≡ o → Reads o e
   event-reads Unreadable q = tt
   event-reads (Readable (Command c)) q =
-      let l = event-fields e (Command c) q in (field 2 l, name-of (field 3 l) (ap tagIn l))
+      let l = event-fields e (Command c) q .1 in (field 2 l, name-of (field 3 l) (ap tagIn l))
   event-reads (Readable (Completion n g f)) q =
-      let l = event-fields e (Completion n g f) q in (field 2 l, name-of (field 3 l) (ap tagIn l))
-  event-reads (Readable (Management n f)) q = field 2 (event-fields e (Management n f) q)
-  event-reads (Readable (Condition h)) q = field 2 (event-fields e (Condition h) q)
+      let l = event-fields e (Completion n g f) q .1 in (field 2 l, name-of (field 3 l) (ap tagIn l))
+  event-reads (Readable (Management n f)) q = field 2 (event-fields e (Management n f) q .1)
+  event-reads (Readable (Condition h)) q = field 2 (event-fields e (Condition h) q .1)
 
-  -- RULES 14.2: only the byte 4 lets a task in that has attribute ACA
-  pub aca-asked : (c : Entry) → eventOf e ≡ Readable (Command c) → (newTask c) .attribute ≡ Aca → getD e firstOffset 0 ≡ 4
-  aca-asked c q h = field 4 (event-fields e (Command c) q) ∙ go (c .asked) (sym (new-task-attribute c) ∙ h)
+  -- the byte of a known attribute
+  pub known-asked : (c : Entry) (t : Attribute) → eventOf e ≡ Readable (Command c) → c .asked ≡ Known t → getD e firstOffset 0 ≡ attributeNumber t
+  known-asked c t q z = field 4 (event-fields e (Command c) q .1) ∙ ap (askedNumber (getD e firstOffset 0)) z
+
+  -- RULES 14.2: only the byte 1 lets a HEAD OF QUEUE task in
+  pub head-asked : (c : Entry) → eventOf e ≡ Readable (Command c) → isHead ((newTask c) .attribute) ≡ eqb (getD e firstOffset 0) 1
+  head-asked c q =
+      let l = event-fields e (Command c) q in ap isHead (new-task-attribute c) ∙ go (c .asked) (l .0) (field 4 (l .1))
     where
-      go : (a : Asked) → attributeOf a ≡ Aca → askedNumber (getD e firstOffset 0) a ≡ 4
-      go (Known t) z = ap attributeNumber z
-      go NoneOfFour z = absurd (let y : _≡_ {A = ℕ} 0 1 = cc in omega arith)
+      go : (a : Asked) → SpareAttribute (getD e 4 0) a → getD e 4 0 ≡ askedNumber (getD e 4 0) a → isHead (attributeOf a) ≡ eqb (getD e 4 0) 1
+      go (Known t) s z = ap isHead (sym (attribute-back t)) ∙ head-byte (attributeNumber t) ∙ ap (λ n. eqb n 1) (sym z)
+      go NoneOfFour s z = sym (unfit (getD e 4 0) s)
 
 -- Reports ----------------------------------------------------------------------------------------------------------------------------------
 
@@ -77,6 +100,30 @@ task-names (suc n) l = rw (task-names n (drop taskSize l))
 pub present-in : (b : List ℕ) → presentIn b ≡ map taskName ((stateOf b) .tasks)
 unfolding stateOf
 present-in b = task-names _ _
+
+-- the attribute bytes are those of the tasks that a table says
+attribute-count :
+    (q : Attribute → Bool) (r : ℕ → Bool) → ((x : ℕ) → q (attributeFrom x) ≡ r x) → (n : ℕ) (l : List ℕ)
+    → count r (attributesFrom n l) ≡ count (λ (t : Task). q (t .attribute)) (tasksFrom n l)
+unfolding tasksFrom
+attribute-count q r f zero l = refl
+attribute-count q r f (suc n) l =
+    omega (arith, ap one-if (f (getD (take taskSize l) attributeOffset 0)), attribute-count q r f n (drop taskSize l))
+
+module _ (s : State) (w : Tested s) where
+  counted-in :
+      (q : Attribute → Bool) (r : ℕ → Bool) → ((x : ℕ) → q (attributeFrom x) ≡ r x)
+      → count r (attributesFrom (countIn (tableBytes s)) (drop tasksAt (tableBytes s))) ≡ count (λ (t : Task). q (t .attribute)) (s .tasks)
+  unfolding stateOf
+  counted-in q r f =
+      attribute-count q r f (countIn (tableBytes s)) (drop tasksAt (tableBytes s))
+      ∙ ap (λ (z : State). count (λ (t : Task). q (t .attribute)) (z .tasks)) (state-back-again s (w .counted) (w .eight))
+
+  pub heads-in : headsIn (tableBytes s) ≡ headsAmong (s .tasks)
+  heads-in = counted-in isHead (λ x. eqb x 1) head-byte
+
+  pub others-in : othersIn (tableBytes s) ≡ othersAmong (s .tasks)
+  others-in = counted-in (λ a. not (isHead a)) (λ x. not (eqb x 1)) (λ x. ap not (head-byte x))
 
 pub present-is : (s : State) → Tested s → presentIn (tableBytes s) ≡ map taskName (s .tasks)
 present-is s w = present-in (tableBytes s) ∙ ap (λ (z : State). map taskName (z .tasks)) (state-back-again s (w .counted) (w .eight))

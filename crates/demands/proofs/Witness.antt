@@ -15,7 +15,7 @@ use Rattle.records.specs.Tables.{tableSize, reportSize, countIn, tasksFrom, pen
 use Rattle.operations.specs.Operations.{outcome, named, started}
 use Rattle.numbers.specs.Boundary.{startNumber}
 use Rattle.demands.specs.Calls.{Call, applied, tableBy}
-use Rattle.demands.specs.Seen.{eventName, presentIn, isAccepted, listedBy, isListed, isTurnBy, turnsBy}
+use Rattle.demands.specs.Seen.{eventName, headsIn, othersIn, presentIn, isAccepted, listedBy, isListed, isTurnBy, turnsBy}
 
 -- a COMMAND of nexus n with tag g, attribute a, exempt; a COMPLETION with GOOD; a piece that is too short to be an event
 abbrev command : ℕ → ℕ → ℕ → Call
@@ -60,6 +60,9 @@ pub record Witnessed : Type 0 where
   pub begins : startNumber lent 0 ≡ 0
   pub accepted : isAccepted table (command 0 1 0) ≡ true
   pub none-older : countIn table ≡ 0
+  -- a and b, with a HEAD OF QUEUE and an ORDERED task in the table
+  pub one-head : headsIn (tableBy table (command 1 1 1 ∷ command 1 2 2 ∷ [])) ≡ 1
+  pub one-other : othersIn (tableBy table (command 1 1 1 ∷ command 1 2 2 ∷ [])) ≡ 1
   -- four turns are not enough, and the fifth is
   pub four : turnsBy waiting fourTurns ≡ 4
   pub still-there : isListed (eventName ((command 0 1 0) .event)) (listedBy waiting fourTurns) ≡ false
@@ -75,6 +78,8 @@ witnessed =
       begins = refl;
       accepted = refl;
       none-older = refl;
+      one-head = refl;
+      one-other = refl;
       four = refl;
       still-there = refl;
       five = refl;

@@ -1,20 +1,27 @@
--- RULES 23: the mission's three demands, over the bytes that the operations are lent. Calls has the words for runs, Seen those for what a driver sees,
--- history/specs/History those for serial numbers, rules/specs/Refusals those for the answers 5 to 8.
+-- RULES 23: the mission's three demands and the waits, over the bytes that the operations are lent. Calls has the words for runs, Seen those for what a driver
+-- sees, WorstCalls those for the longest waits, history/specs/History those for serial numbers, rules/specs/Refusals those for the answers 5 to 8.
 --
 --   Demand1             := every input has an answer; each number exactly where the rules give it; what is refused changes nothing
 --   Demand2             := over any calls on a started table, answers, tables, reports and namings are those of the rules at every moment, and each
 --                          accepted command is in the table or has ended, once, by serial number and as a driver's ledger shows it
 --   turnsToWait k       := by how many turns a task has ended that was accepted with k older ones
 --   Demand3             := a task accepted with an attribute other than ACA, with k older tasks then, has ended by the 5 x (k + 1)th turn
+--   EndedBy c x a b n   := under the policy byte c a task accepted with the attribute byte x, with a HEAD OF QUEUE tasks and b others in the table then, has
+--                          ended by the nth turn
+--   Holds f             := so have all with an attribute other than ACA by the turn that the figure f gives, by whether the task is HEAD OF QUEUE, a and b
+--   WaitsRequested      := the customer's figure holds
+--   WaitsLongest        := `longest` holds; and for all a and b that a table has room for, every policy and each attribute other than ACA, no lower figure does
+--   TurnsToHave         := while no ACA is in effect, a table with tasks has a turn: the completion of the task that is named
 use Prim.Native.Nat.{ℕ, _+_, _*_, _≤_, _<_}
 use mathlib.Core.Path.{_≡_}
-use mathlib.Core.Bool.{true, false, cond}
+use mathlib.Core.Bool.{Bool, true, false, cond}
 use mathlib.Core.List.{List, [], _∷_, _++_, map}
 use mathlib.Core.Logic.{_↔_, _⊎_}
 use mathlib.Core.Option.{some}
+use lib.Dec.{eqb}
 use lib.ListN.{length, getD, replicate}
-use Rattle.octets.specs.Sizes.{firstOffset}
-use Rattle.rules.specs.Tasks.{nexuses}
+use Rattle.octets.specs.Sizes.{acaOffset, firstOffset}
+use Rattle.rules.specs.Tasks.{places, nexuses}
 use Rattle.rules.specs.Rulings.{turn, taskName}
 use Rattle.rules.specs.Rules.{nexusOf}
 use Rattle.rules.specs.Refusals.{Absent, Waits, EndsAtEntry, EntryStatus, RejectedBy}
@@ -22,12 +29,14 @@ use Rattle.records.specs.Numbers.{policyFits, policyFrom}
 use Rattle.records.specs.Tables.{Bytes, tableSize, reportSize, countIn, GoodTable, stateOf, tableBytes}
 use Rattle.records.specs.Events.{eventOf, IsEvent}
 use Rattle.history.specs.History.{after, look, unstated, inTable, hasEnded}
+use Rattle.history.specs.Waits.{requested, longest}
 use Rattle.operations.specs.Operations.{Outcome, outcome, naming, named, started}
-use Rattle.rules.specs.Types.{Event, Policy, Done}
+use Rattle.rules.specs.Types.{Finish, Event, Policy, Done}
 use Rattle.records.specs.declared.events.EventRead.{the-variants.Readable, the-variants.Unreadable}
 use Rattle.numbers.specs.Boundary.{answered, turnFor, startNumber}
 use Rattle.demands.specs.Calls.{Call, applied, tableBy, eventsIn, commandTask, opened, expected}
-use Rattle.demands.specs.Seen.{eventName, presentIn, isAccepted, endedIn, listedBy, isListed, turnsBy, ledgerBy}
+use Rattle.demands.specs.Seen.{eventName, headsIn, othersIn, presentIn, isAccepted, endedIn, listedBy, isListed, isTurnBy, turnsBy, ledgerBy}
+use Rattle.demands.specs.WorstCalls.{completionOf, StillThere}
 
 -- 1 ----------------------------------------------------------------------------------------------------------------------------------------
 
@@ -135,3 +144,35 @@ Demand3 =
     → isAccepted (tableBy ((started t b) .table) ms) m ≡ true → (getD (m .event) firstOffset 0 ≡ 4 → ⊥)
     → turnsToWait (countIn (tableBy ((started t b) .table) ms)) ≤ turnsBy (tableBy ((started t b) .table) (ms ++ (m ∷ []))) later
     → isListed (eventName (m .event)) (listedBy (tableBy ((started t b) .table) (ms ++ (m ∷ []))) later) ≡ true
+
+-- The wait, by what is older ---------------------------------------------------------------------------------------------------------------
+
+-- RULES 23.7 and 23.8: the end of one task, as demand 3 has it. a and b are read off the table's bytes before the call m.
+abbrev pub EndedBy : ℕ → ℕ → ℕ → ℕ → ℕ → Type 0
+EndedBy c x a b n =
+    (t : List ℕ) (ms : List Call) (m : Call) (later : List Call) → startNumber t c ≡ 0
+    → isAccepted (tableBy ((started t c) .table) ms) m ≡ true → getD (m .event) firstOffset 0 ≡ x
+    → headsIn (tableBy ((started t c) .table) ms) ≡ a → othersIn (tableBy ((started t c) .table) ms) ≡ b
+    → n ≤ turnsBy (tableBy ((started t c) .table) (ms ++ (m ∷ []))) later
+    → isListed (eventName (m .event)) (listedBy (tableBy ((started t c) .table) (ms ++ (m ∷ []))) later) ≡ true
+
+-- RULES 14.2, 23.7 and 23.8: of 0 SIMPLE, 1 HEAD OF QUEUE, 2 ORDERED and 4 ACA all but the last
+abbrev pub Holds : (Bool → ℕ → ℕ → ℕ) → Type 0
+Holds f = (c x a b : ℕ) → (x ≡ 4 → ⊥) → EndedBy c x a b (f (eqb x 1) a b)
+
+-- RULES 23.7
+abbrev pub WaitsRequested : Type 0
+WaitsRequested = Holds requested
+
+-- RULES 23.8 and 23.9. Of attribute bytes 0, 1 and 2; of policy bytes those that start takes.
+pub record WaitsLongest : Type 0 where
+  pub holds : Holds longest
+  pub met : (t : List ℕ) (c x a b : ℕ) → startNumber t c ≡ 0 → x ≤ 2 → a + b < places → StillThere ((started t c) .table) x a b
+  pub least : (c x a b n : ℕ) → policyFits c ≡ true → x ≤ 2 → a + b < places → EndedBy c x a b n → longest (eqb x 1) a b ≤ n
+
+-- RULES 23.10: without it a box that names nobody would keep every wait
+abbrev pub TurnsToHave : Type 0
+TurnsToHave =
+    (t : List ℕ) (c : ℕ) (ms : List Call) (f : Finish) → startNumber t c ≡ 0 → getD (tableBy ((started t c) .table) ms) acaOffset 0 ≡ 0
+    → 1 ≤ countIn (tableBy ((started t c) .table) ms)
+    → isTurnBy (tableBy ((started t c) .table) ms) (completionOf (turnFor (named (tableBy ((started t c) .table) ms))) f) ≡ true

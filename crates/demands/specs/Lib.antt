@@ -1,3 +1,4 @@
 pub mod Calls
 pub mod Seen
+pub mod WorstCalls
 pub mod Demands

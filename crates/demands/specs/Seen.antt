@@ -5,6 +5,8 @@
 --   recordName r, namesFrom n l  := nexus and tag of a task or ended record; those of the first n such records of l
 --   taskAt t i, attributeAt t i  := the task record at place i of the table t, the oldest at 0; its attribute byte
 --   pendingByte t i      := the pending byte of nexus i in the table t
+--   attributesFrom n l   := the attribute bytes of the first n task records of l
+--   headsIn t, othersIn t  := how many tasks of the table t are HEAD OF QUEUE, and how many are not
 --   presentIn t          := nexus and tag of each task of the table t, oldest first
 --   isAccepted t m       := the call brings a COMMAND, and apply answers 0
 --   listed t m, listedBy t ms  := nexus and tag of each ended record that the call reports, that the calls ms report
@@ -17,12 +19,12 @@
 --   strike k l, strikeAll ks l := l without the first of the name k, without those of the names ks; none where one of them is not there
 --   ledgerBy t ms l      := the driver's ledger, l before the calls ms, after them; none where a report lists somebody who is not in it
 use Prim.Native.Nat.{ℕ, zero, suc, _+_, _*_}
-use mathlib.Core.Bool.{Bool, cond, _&&_}
+use mathlib.Core.Bool.{Bool, cond, _&&_, not}
 use mathlib.Core.List.{List, [], _∷_, _++_}
 use mathlib.Core.Option.{Option, none, some}
 use lib.Dec.{eqb}
 use lib.ListN.{getD, take, drop}
-use Rattle.laws.specs.Lists.{one-if, any}
+use Rattle.laws.specs.Lists.{one-if, any, count}
 use Rattle.laws.specs.RecordsInLists.{recordAt}
 use Rattle.octets.specs.Sizes.{acaOffset, pendingOffset, kindOffset, senderOffset, nexusOffset, attributeOffset}
 use Rattle.rules.specs.Types.{Named}
@@ -68,6 +70,17 @@ attributeAt t i = getD (taskAt t i) attributeOffset 0
 -- RULES 13.2 and 15.2
 abbrev pub pendingByte : List ℕ → ℕ → ℕ
 pendingByte t i = getD (recordAt nexusSize t (nexusesAt + nexusSize * i)) pendingOffset 0
+
+-- RULES 15.3 and 23.7: a and b, counted in the table
+abbrev pub attributesFrom : ℕ → List ℕ → List ℕ
+attributesFrom zero l = []
+attributesFrom (suc n) l = getD (take taskSize l) attributeOffset 0 ∷ attributesFrom n (drop taskSize l)
+
+abbrev pub headsIn : List ℕ → ℕ
+headsIn t = count (λ x. eqb x 1) (attributesFrom (countIn t) (drop tasksAt t))
+
+abbrev pub othersIn : List ℕ → ℕ
+othersIn t = count (λ x. not (eqb x 1)) (attributesFrom (countIn t) (drop tasksAt t))
 
 -- RULES 17.1: oldest first
 abbrev pub presentIn : List ℕ → List Named

@@ -1,58 +1,57 @@
--- Computed: the waiting bound is met, and well-formed states with tasks, an ACA and run not 0 are reached.
-use Prim.Native.Nat.{ℕ, zero, suc, _+_, _*_}
+-- Computed: the longest waits are met, and well-formed states with tasks, an ACA and run not 0 are reached.
+use Prim.Native.Nat.{ℕ}
 use mathlib.Core.Bool.{true, false}
 use mathlib.Core.Path.{_≡_, refl}
 use mathlib.Core.List.{List, [], _∷_, _++_, map}
-use Rattle.rules.specs.Types.{Simple, HeadOfQueue, Ordered, Aca, Dormant, Enabled, Blocked, Event, Completion, Good, CheckCondition, EndNone, Policy, Faulted, Turn, Nothing, Names}
-use Rattle.rules.specs.Tasks.{whoseTurn}
-use Rattle.rules.specs.Rulings.{turn, fresh}
+use lib.ListN.{length}
+use Rattle.rules.specs.Types.{Attribute, Simple, HeadOfQueue, Ordered, Aca, Dormant, Enabled, Blocked, Event, Completion, Good, CheckCondition, EndNone, Policy, Faulted}
+use Rattle.rules.specs.Tasks.{isHead, whoseTurn}
+use Rattle.rules.specs.Rulings.{fresh}
 use Rattle.rules.specs.Rules.{newTask, enter, complete, ruleFor, ruling, answer}
 use Rattle.rules.specs.Well.{WellFormed}
 use Rattle.rules.proofs.Accidents.{command}
 use Rattle.history.specs.History.{Past, advance, play, after, hasEnded, inTable, turns}
+use Rattle.history.specs.Waits.{exemptCommand, worstBefore, worstSince}
 use Rattle.history.proofs.Reached.{reached-well-formed}
 
 abbrev policy : Policy
 policy = record { qerr = EndNone; tas = false }
 
--- The bound is met -------------------------------------------------------------------------------------------------------------------------
-
-abbrev simples : ℕ → List Event
-simples zero = []
-simples (suc n) = command 0 n Simple false ∷ simples n
-
--- k SIMPLE tasks, and behind them the one that waits: its serial number is k
-abbrev begun : ℕ → Past
-begun k = after policy (simples (suc k))
-
-abbrev completed : Turn → List Event
-completed Nothing = []
-completed (Names t) = Completion (t .nexus) (t .tag) Good ∷ []
-
--- a new HEAD OF QUEUE task comes in, then the task whose turn it is completes
-abbrev round : Past → ℕ → List Event
-round h g = command 1 g HeadOfQueue false ∷ completed (turn ((advance h (command 1 g HeadOfQueue false)) .state))
-
-abbrev rounds : ℕ → Past → List Event
-rounds zero h = []
-rounds (suc n) h = round h n ++ rounds n (play h (round h n))
+-- The longest waits are met -----------------------------------------------------------------------------------------------------------------
 
 -- the turns among the events es; how often the command with serial number k is in the table behind them, and how often it has ended
 abbrev seen : Past → List Event → ℕ → List ℕ
 seen h es k = turns h es ∷ inTable (play h es) k ∷ hasEnded (play h es) k ∷ []
 
-abbrev seenAfter : ℕ → ℕ → List ℕ
-seenAfter n k = seen (begun k) (rounds n (begun k)) k
+-- a worst case after its task, 2.0, has come in, and then the events of it with `more` behind them
+abbrev worstSeen : Attribute → List Event → ℕ × ℕ → List ℕ
+worstSeen x more (a, b) =
+    let before = after policy (worstBefore (isHead x) a b) in
+    seen (advance before (exemptCommand 2 0 x)) (worstSince (isHead x) a b ++ more) (length (before .roll))
 
-abbrev upTo6 : List ℕ
-upTo6 = 0 ∷ 1 ∷ 2 ∷ 3 ∷ 4 ∷ 5 ∷ 6 ∷ []
-
--- case K with k older tasks: after 5 x (k + 1) - 1 turns the one that waits is still in the table, and the next turn ends it
-pub bound-met :
-    (map (λ k. seenAfter (5 * k + 4) k) upTo6 ≡ map (λ k. (5 * k + 4) ∷ 1 ∷ 0 ∷ []) upTo6)
-    × (map (λ k. seenAfter (5 * (k + 1)) k) upTo6 ≡ map (λ k. 5 * (k + 1) ∷ 0 ∷ 1 ∷ []) upTo6)
+-- Computed for some pairs; `met` (Least) has it for all: a turn before the figure the task is in the table, and the next turn ends it
+pub first-pair : worstSeen Simple [] (0, 0) ≡ 4 ∷ 1 ∷ 0 ∷ []
 unfolding whoseTurn fresh newTask enter complete ruleFor ruling answer advance
-bound-met = (refl, refl)
+first-pair = refl
+
+pub head-pair : worstSeen HeadOfQueue [] (4, 2) ≡ 6 ∷ 1 ∷ 0 ∷ []
+unfolding whoseTurn fresh newTask enter complete ruleFor ruling answer advance
+head-pair = refl
+
+abbrev pairs : List (ℕ × ℕ)
+pairs = (0, 2) ∷ (3, 1) ∷ (6, 1) ∷ (4, 2) ∷ (9, 4) ∷ []
+
+pub worst-computed :
+    (map (worstSeen Simple []) pairs
+    ≡ (14 ∷ 1 ∷ 0 ∷ []) ∷ (9 ∷ 1 ∷ 0 ∷ []) ∷ (11 ∷ 1 ∷ 0 ∷ []) ∷ (14 ∷ 1 ∷ 0 ∷ []) ∷ (29 ∷ 1 ∷ 0 ∷ []) ∷ [])
+    × (map (worstSeen HeadOfQueue []) pairs
+    ≡ (1 ∷ 1 ∷ 0 ∷ []) ∷ (4 ∷ 1 ∷ 0 ∷ []) ∷ (7 ∷ 1 ∷ 0 ∷ []) ∷ (6 ∷ 1 ∷ 0 ∷ []) ∷ (12 ∷ 1 ∷ 0 ∷ []) ∷ [])
+    × (map (worstSeen Ordered (Completion 2 0 Good ∷ [])) pairs
+    ≡ (15 ∷ 0 ∷ 1 ∷ []) ∷ (10 ∷ 0 ∷ 1 ∷ []) ∷ (12 ∷ 0 ∷ 1 ∷ []) ∷ (15 ∷ 0 ∷ 1 ∷ []) ∷ (30 ∷ 0 ∷ 1 ∷ []) ∷ [])
+    × (map (worstSeen HeadOfQueue (Completion 2 0 Good ∷ [])) pairs
+    ≡ (2 ∷ 0 ∷ 1 ∷ []) ∷ (5 ∷ 0 ∷ 1 ∷ []) ∷ (8 ∷ 0 ∷ 1 ∷ []) ∷ (7 ∷ 0 ∷ 1 ∷ []) ∷ (13 ∷ 0 ∷ 1 ∷ []) ∷ [])
+unfolding whoseTurn fresh newTask enter complete ruleFor ruling answer advance
+worst-computed = (refl, refl, refl, refl)
 
 -- A witness --------------------------------------------------------------------------------------------------------------------------------
 

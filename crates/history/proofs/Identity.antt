@@ -59,7 +59,7 @@ pub record Known (h : Past) : Type 0 where
   -- the reports name the commands with the serial numbers `ended`, in their order
   pub reports : map endedName (h .log) ≡ map (λ k. taskName (look (h .roll) k)) (h .departed)
 
-known-names : (h : Past) → Known h → map taskName (h .state .tasks) ≡ map (λ k. taskName (look (h .roll) k)) (h .present)
+pub known-names : (h : Past) → Known h → map taskName (h .state .tasks) ≡ map (λ k. taskName (look (h .roll) k)) (h .present)
 known-names h i =
     sym (map-map taskName unstated (h .state .tasks))
     ∙ ap (map taskName) (i .table)

@@ -5,7 +5,13 @@ pub mod Conserve
 pub mod Identity
 pub mod Effects
 pub mod Places
+pub mod Figures
 pub mod Wait
+pub mod Served
+pub mod Leads
 pub mod Listed
+pub mod Rows
+pub mod Worst
+pub mod Least
 pub mod Lasting
 pub mod Examples

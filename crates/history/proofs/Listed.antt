@@ -1,4 +1,4 @@
--- An end is told: the report of a later event lists the command that has ended.
+-- An end is told: the report of a later event lists the command that has ended. Until then the table does.
 use Prim.Native.Nat.{ℕ, _+_, _≤_}
 use mathlib.Core.Bool.{true, or-true as or-on}
 use mathlib.Core.Path.{_≡_, refl, ap, sym, _∙_}
@@ -16,7 +16,7 @@ use Rattle.rules.specs.Rulings.{joinsOf, taskName, endedName, sameName}
 use Rattle.rules.specs.Rules.{ruling}
 use Rattle.history.specs.History.{Past, advance, play, after, nobody, look, accepted, inTable, hasEnded}
 use Rattle.history.proofs.Conserve.{conserved, conserved-advance, ended-grows}
-use Rattle.history.proofs.Identity.{Known, look-more, known-play, known}
+use Rattle.history.proofs.Identity.{Known, look-more, known-names, known-play, known}
 use Rattle.history.proofs.Wait.{roll-one}
 
 roll-more : (h : Past) (es : List Event) → (js : List Task) × ((play h es) .roll ≡ h .roll ++ js)
@@ -96,3 +96,14 @@ end-is-listed p es e t later names j n l =
     let inside : 1 ≤ count (eqb k) (s .0) = omega (arith, simp count-append at (ap (count (eqb k)) (s .1))) in
     rw (s .2, ap taskName (sym (who-came h e t j later)))
     (among k (λ i. taskName (look ((play m later) .roll) i)) (s .0) inside)
+
+-- and if it is in the table then, its name is among those of the tasks there
+pub present-is-listed :
+    (p : Policy) (es : List Event) (e : Event) (t : Task) (later : List Event) → accepted ((after p es) .state) e ≡ t ∷ []
+    → inTable (play (advance (after p es) e) later) (length ((after p es) .roll)) ≡ 1
+    → any (sameName (taskName t)) (map taskName ((play (advance (after p es) e) later) .state .tasks)) ≡ true
+present-is-listed p es e t later j n =
+    let h = after p es in
+    let m = play (advance h e) later in
+    rw (known-names m (known-play h (e ∷ later) (known p es)), ap taskName (sym (who-came h e t j later)))
+    (among (length (h .roll)) (λ i. taskName (look (m .roll) i)) (m .present) (omega arith))

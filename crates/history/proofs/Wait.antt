@@ -1,27 +1,30 @@
--- The waiting bound: demand 3 over the rules, by way of the sharper figures a + 5 (b + 1) and a + b + 1.
-use Prim.Native.Nat.{ℕ, zero, suc, _+_, _*_, _≤_, _<_}
+-- The waiting bound: demand 3 over the rules, by way of the longest waits there are.
+use Prim.Native.Nat.{ℕ, _+_, _-_, _*_, _/_, _≤_, _<_, min, max}
 use mathlib.Core.Bool.{Bool, true, false, not}
 use mathlib.Core.Path.{_≡_, refl, ap, _∙_}
 use mathlib.Core.List.{List, [], _∷_, _++_, map}
 use mathlib.Core.Logic.{inl, inr}
+use mathlib.Core.Option.{some}
 use native.Mathlib.Omega.{arith}
 use lib.ListN.{length, length-append}
 use borrow.Author.Tests.{lt-ltb}
-use Rattle.laws.specs.Lists.{one-if, count}
-use Rattle.laws.proofs.Bools.{and-true, not-both, split, one-both}
-use Rattle.laws.proofs.Lists.{count-append, first-passes}
+use Rattle.laws.specs.Lists.{one-if, count, first}
+use Rattle.laws.proofs.Bools.{and-true, not-both, none-some, split}
+use Rattle.laws.proofs.Lists.{count-append, count-both, first-passes}
 use Rattle.rules.specs.Types.{Attribute, Simple, HeadOfQueue, Ordered, Aca, Task, Event, Policy, Change, Ruling, Keeps, Changes}
 use Rattle.values.specs.Headers.{runAfter}
-use Rattle.rules.specs.Tasks.{isHead, enabledHead}
+use Rattle.rules.specs.Tasks.{places, isHead, isPlain, enabledHead}
 use Rattle.rules.specs.Rulings.{State, kept, fateOf, joinsOf, answerOf, ruled}
 use Rattle.rules.specs.Rules.{ruling}
 use Rattle.rules.specs.Well.{settled}
 use Rattle.rules.proofs.Fates.{isEnds, count-kept-le, count-falls}
 use Rattle.rules.proofs.Ruled.{answer-ruled}
 use Rattle.rules.proofs.Settled.{headTask}
-use Rattle.rules.proofs.TurnRule.{otherTask, turn-cases}
+use Rattle.rules.proofs.TurnRule.{otherTask, head-is, turn-cases}
 use Rattle.rules.proofs.WellKept.{Tested}
 use Rattle.history.specs.History.{Past, advance, play, after, accepted, hasEnded, turnBy, isTurn, turns}
+use Rattle.history.specs.Waits.{headsAmong, othersAmong, requested, firstOvertakers, longest}
+use Rattle.history.proofs.Figures.{four-first, four-with-room, first-falls, longest-requested, requested-mission}
 use Rattle.history.proofs.Reached.{tested-advance, tested-after}
 use Rattle.history.proofs.Conserve.{conserved, conserved-advance, conserved-play, ended-grows}
 use Rattle.history.proofs.Effects.{Quiet, TurnOf, EffectR, effect}
@@ -30,51 +33,43 @@ use Rattle.history.proofs.Places.{Place, place-split, stayers, endsBy, 
 
 -- The potential ----------------------------------------------------------------------------------------------------------------------------
 
--- what run counts for: nothing while a HEAD OF QUEUE task is older
-abbrev credit : ℕ → ℕ → ℕ
-credit zero run = run
-credit (suc a) run = 0
+-- `longest`, by what run is: the turns that a task can still wait, for a task that is HEAD OF QUEUE or not
+abbrev wait : Bool → ℕ → ℕ → ℕ → ℕ
+wait false a b run = max a (firstOvertakers b - run) + 5 * b + 1
+wait true a b run = a + 1 + min b ((a + run) / 4)
 
--- how the numbers of older tasks, HEAD OF QUEUE (a) and others (b), and run go from one state to the next, over a turn or not, for a task that is
--- HEAD OF QUEUE or not
+-- how the numbers of older tasks, HEAD OF QUEUE (a) and others (b), and run go from one state to the next, over a turn or not; whoever passes a task
+-- needs a place in the table besides it and the older ones
 data Falls (head : Bool) (a b run a′ b′ run′ : ℕ) : Bool → Type 0 where
+  -- no turn: whoever ended, run stays
   quiet : a′ ≤ a → b′ ≤ b → run′ ≡ run → Falls head a b run a′ b′ run′ false
-  older-head : a′ < a → b′ ≤ b → Falls head a b run a′ b′ run′ true
-  older-other : a′ ≤ a → b′ < b → Falls head a b run a′ b′ run′ true
-  passed : head ≡ false → a ≡ 0 → a′ ≤ a → b′ ≤ b → run′ ≡ run + 1 → Falls head a b run a′ b′ run′ true
+  -- the turn of an older HEAD OF QUEUE task
+  older-head : a′ < a → b′ ≤ b → run′ ≡ min (run + 1) 4 → Falls head a b run a′ b′ run′ true
+  -- of an older one that is not, past a HEAD OF QUEUE task only at run 4
+  older-other : a′ ≤ a → b′ < b → run′ ≡ 0 → (head ≡ true → 4 ≤ run) → Falls head a b run a′ b′ run′ true
+  -- of a younger one, which is HEAD OF QUEUE, past a task that is not
+  passed : head ≡ false → a ≡ 0 → b + 1 < places → run < 4 → a′ ≤ a → b′ ≤ b → run′ ≡ min (run + 1) 4 → Falls head a b run a′ b′ run′ true
 
-credit-le : (a run : ℕ) → credit a run ≤ run
-credit-le zero run = omega arith
-credit-le (suc a) run = omega arith
+-- each turn takes one from the wait, and nothing adds to it
+falls :
+    (head : Bool) {a b run a′ b′ run′ : ℕ} {turn : Bool} → Falls head a b run a′ b′ run′ turn
+    → one-if turn + wait head a′ b′ run′ ≤ wait head a b run
+falls false {b = b} {b′ = b′} (quiet p q r) = omega (arith, first-falls b b′ q)
+falls false {b = b} {b′ = b′} (older-head p q r) = omega (arith, four-first b′, first-falls b b′ q)
+falls false {b′ = b′} (older-other p q r f) = omega (arith, four-first b′)
+falls false {b = b} {b′ = b′} (passed e z v l p q r) = omega (arith, four-first b′, four-with-room b v)
+falls true (quiet p q r) = omega arith
+falls true (older-head p q r) = omega arith
+falls true (older-other p q r f) = omega (arith, f refl)
+falls true (passed e z v l p q r) = not-both refl e
 
-credit-none : (a run : ℕ) → 1 ≤ a → credit a run ≡ 0
-credit-none zero run h = absurd (omega arith)
-credit-none (suc a) run h = refl
+some-wait : (head : Bool) (a b run : ℕ) → 1 ≤ wait head a b run
+some-wait false a b run = omega arith
+some-wait true a b run = omega arith
 
-credit-mono : (a a′ run : ℕ) → a′ ≤ a → credit a run ≤ credit a′ run
-credit-mono a zero run h = credit-le a run
-credit-mono a (suc a′) run h = omega (arith, credit-none a run (omega arith))
-
-credit-zero : (a run : ℕ) → a ≤ 0 → credit a run ≡ run
-credit-zero zero run h = refl
-credit-zero (suc a) run h = absurd (omega arith)
-
-falls-other :
-    (a b run a′ b′ run′ : ℕ) {turn : Bool} (n : ℕ) → Falls false a b run a′ b′ run′ turn → run ≤ 4
-    → a + 5 * (b + 1) ≤ one-if turn + n + credit a run → a′ + 5 * (b′ + 1) ≤ n + credit a′ run′
-falls-other a b run a′ b′ run′ n (quiet p q r) l h = rw r (omega (arith, credit-mono a a′ run p))
-falls-other a b run a′ b′ run′ n (older-head p q) l h = omega (arith, credit-none a run (omega arith))
-falls-other a b run a′ b′ run′ n (older-other p q) l h = omega (arith, credit-le a run)
-falls-other a b run a′ b′ run′ n (passed e z p q r) l h =
-    omega (arith, credit-zero a run (omega arith), credit-zero a′ run′ (omega arith))
-
-falls-head :
-    {a b run a′ b′ run′ : ℕ} {turn : Bool} (n : ℕ) → Falls true a b run a′ b′ run′ turn → a + b + 1 ≤ one-if turn + n
-    → a′ + b′ + 1 ≤ n
-falls-head n (quiet p q r) h = omega arith
-falls-head n (older-head p q) h = omega arith
-falls-head n (older-other p q) h = omega arith
-falls-head n (passed e z p q r) h = not-both refl e
+wait-longest : (head : Bool) (a b run a′ b′ : ℕ) → a′ ≤ a → b′ ≤ b → run ≤ 4 → wait head a′ b′ run ≤ longest head a b
+wait-longest false a b run a′ b′ p q l = omega (arith, four-first b′, first-falls b b′ q)
+wait-longest true a b run a′ b′ p q l = omega arith
 
 heads : (ts us : List Task) → attributes ts ≡ attributes us → count headTask ts ≡ count headTask us
 heads ts us e = count-attributes isHead ts us e
@@ -84,11 +79,18 @@ others ts us e = count-attributes (λ a. not (isHead a)) ts us e
 
 -- One event --------------------------------------------------------------------------------------------------------------------------------
 
-run-after-head : (a : Attribute) (run : ℕ) → isHead a ≡ true → run < 4 → runAfter a run ≡ run + 1
-run-after-head Simple run e h = not-both e refl
-run-after-head HeadOfQueue run e h = omega arith
-run-after-head Ordered run e h = not-both e refl
-run-after-head Aca run e h = not-both e refl
+run-after-head : (a : Attribute) (run : ℕ) → isHead a ≡ true → runAfter a run ≡ min (run + 1) 4
+run-after-head a run e = rw (head-is a e)
+
+run-after-plain : (a : Attribute) (run : ℕ) → isPlain a ≡ true → runAfter a run ≡ 0
+run-after-plain Simple run e = refl
+run-after-plain HeadOfQueue run e = not-both e refl
+run-after-plain Ordered run e = refl
+run-after-plain Aca run e = not-both e refl
+
+first-there : {A : Type 0} (p : A → Bool) (xs : List A) (y : A) → first p xs ≡ some y → 1 ≤ length xs
+first-there p [] y e = none-some y e
+first-there p (x ∷ xs) y e = omega arith
 
 -- a turn that the task outlives
 falls-turn :
@@ -108,17 +110,27 @@ falls-turn s c k t ks pre w o p n =
     turn-cases (s .header .run) pre t (r .0) (o .task) e (rw (o .clear, r .1) at (o .is-named))
     (λ q. not-both (rw (← q) at (o .ends)) n)
     (λ q.
-    older-head
-    (count-falls enabledHead headTask (fateOf (c .sweep)) pre (o .task) q
-    (and-true (headTask (o .task)) _ (first-passes enabledHead pre (o .task) q) .0)
-    (o .ends))
-    (fewer otherTask))
-    (λ q.
+    let x = and-true (headTask (o .task)) _ (first-passes enabledHead pre (o .task) q) .0 in
+    older-head (count-falls enabledHead headTask (fateOf (c .sweep)) pre (o .task) q x (o .ends)) (fewer otherTask)
+    (o .run ∙ run-after-head (o .task .attribute) (s .header .run) x))
+    (λ q x l.
     older-other (fewer headTask)
-    (count-falls otherTask otherTask (fateOf (c .sweep)) pre (o .task) q (first-passes otherTask pre (o .task) q) (o .ends)))
-    (λ y z l x.
-    passed y z (fewer headTask) (fewer otherTask)
-    (o .run ∙ run-after-head (o .task .attribute) (s .header .run) x l))
+    (count-falls otherTask otherTask (fateOf (c .sweep)) pre (o .task) q (first-passes otherTask pre (o .task) q) (o .ends))
+    (o .run ∙ run-after-plain (o .task .attribute) (s .header .run) x)
+    l)
+    (λ y z l q.
+    let x = and-true (headTask (o .task)) _ (first-passes enabledHead (r .0) (o .task) q) .0 in
+    let v : count otherTask pre + 1 < places =
+    omega (
+      arith,
+      count-both headTask pre,
+      first-there enabledHead (r .0) (o .task) q,
+      ap length (r .1),
+      length-append pre (t ∷ r .0),
+      w .few,
+    )
+    in
+    passed y z v l (fewer headTask) (fewer otherTask) (o .run ∙ run-after-head (o .task .attribute) (s .header .run) x))
 
 -- any event that the task outlives
 falls-by :
@@ -170,31 +182,14 @@ after-event h e k t pre w p gone stays =
 pub still-ended : (h : Past) (es : List Event) (k : ℕ) → 1 ≤ hasEnded h k → 1 ≤ hasEnded (play h es) k
 still-ended h es k l = let r = ended-grows h es in rw (r .1) (simp count-append (omega arith))
 
-wait-other :
+waited :
     (es : List Event) (h : Past) (k : ℕ) (t : Task) (pre : List Task) → Tested (h .state) → Place k t (h .present) (h .state .tasks) pre
-    → headTask t ≡ false
-    → count headTask pre + 5 * (count otherTask pre + 1) ≤ turns h es + credit (count headTask pre) (h .state .header .run)
-    → 1 ≤ hasEnded (play h es) k
-wait-other [] h k t pre w p n l = absurd (omega (arith, credit-le (count headTask pre) (h .state .header .run), w .run))
-wait-other (e ∷ es) h k t pre w p n l =
+    → wait (headTask t) (count headTask pre) (count otherTask pre) (h .state .header .run) ≤ turns h es → 1 ≤ hasEnded (play h es) k
+waited [] h k t pre w p l =
+    absurd (omega (arith, some-wait (headTask t) (count headTask pre) (count otherTask pre) (h .state .header .run)))
+waited (e ∷ es) h k t pre w p l =
     after-event h e k t pre w p (λ d. still-ended (advance h e) es k d)
-    (λ t′ pre′ p′ a f.
-    wait-other es (advance h e) k t′ pre′ (tested-advance h e w) p′ (rw a n)
-    (falls-other (count headTask pre) (count otherTask pre) (h .state .header .run) (count headTask pre′) (count otherTask pre′)
-    ((advance h e) .state .header .run)
-    (turns (advance h e) es)
-    (rw n at f)
-    (w .run)
-    l))
-
-wait-head :
-    (es : List Event) (h : Past) (k : ℕ) (t : Task) (pre : List Task) → Tested (h .state) → Place k t (h .present) (h .state .tasks) pre
-    → headTask t ≡ true → count headTask pre + count otherTask pre + 1 ≤ turns h es → 1 ≤ hasEnded (play h es) k
-wait-head [] h k t pre w p n l = absurd (omega arith)
-wait-head (e ∷ es) h k t pre w p n l =
-    after-event h e k t pre w p (λ d. still-ended (advance h e) es k d)
-    (λ t′ pre′ p′ a f.
-    wait-head es (advance h e) k t′ pre′ (tested-advance h e w) p′ (rw a n) (falls-head (turns (advance h e) es) (rw n at f) l))
+    (λ t′ pre′ p′ a f. waited es (advance h e) k t′ pre′ (tested-advance h e w) p′ (rw a (omega (arith, falls (headTask t) f))))
 
 -- From acceptance --------------------------------------------------------------------------------------------------------------------------
 
@@ -202,14 +197,10 @@ pub roll-one : (h : Past) (e : Event) (t : Task) → accepted (h .state) e ≡ t
 unfolding advance
 roll-one h e t j = rw (j, length-append (h .roll) (t ∷ []))
 
-roll-grows : (h : Past) (es : List Event) → length (h .roll) ≤ length ((play h es) .roll)
+pub roll-grows : (h : Past) (es : List Event) → length (h .roll) ≤ length ((play h es) .roll)
 unfolding advance
 roll-grows h [] = omega arith
 roll-grows h (e ∷ es) = omega (arith, roll-grows (advance h e) es, length-append (h .roll) (joinsOf (ruling (h .state) e)))
-
-count-both : (ts : List Task) → count headTask ts + count otherTask ts ≡ length ts
-count-both [] = refl
-count-both (t ∷ ts) = omega (arith, count-both ts, one-both (headTask t))
 
 -- From a fresh table, after any events es, let the event e be accepted as the task t; its serial number is the length of the roll.
 module _ (p : Policy) (es : List Event) (e : Event) (t : Task) (later : List Event) where
@@ -229,31 +220,34 @@ module _ (p : Policy) (es : List Event) (e : Event) (t : Task) (later : List Eve
             (omega (arith, roll-grows (advance before e) later, roll-one before e t j))),
       )
 
-  -- with a HEAD OF QUEUE tasks and b others in the table, one that is not HEAD OF QUEUE has ended by turn a + 5 (b + 1)
-  pub waits-other :
-      accepted (before .state) e ≡ t ∷ [] → headTask t ≡ false
-      → count headTask (before .state .tasks) + 5 * (count otherTask (before .state .tasks) + 1) ≤ turns (advance before e) later
+  -- with a HEAD OF QUEUE tasks and b others in the table: ended, once, by turn longest (Least: and no earlier, in the worst case)
+  pub waits-longest :
+      accepted (before .state) e ≡ t ∷ []
+      → longest (isHead (t .attribute)) (headsAmong (before .state .tasks)) (othersAmong (before .state .tasks)) ≤ turns (advance before e) later
       → hasEnded (play (advance before e) later) (length (before .roll)) ≡ 1
-  waits-other j n l =
+  waits-longest j l =
       let m = entered before e t (conserved p es) j in
+      let w = tested-advance before e (tested-after p es) in
+      let q =
+      wait-longest (headTask t) (count headTask (before .state .tasks)) (count otherTask (before .state .tasks))
+      ((advance before e) .state .header .run)
+      (count headTask (m .older))
+      (count otherTask (m .older))
+      (m .heads)
+      (m .others)
+      (w .run)
+      in
       once-ended j
-      (wait-other later (advance before e) (length (before .roll)) (m .self) (m .older) (tested-advance before e (tested-after p es))
-      (m .place)
-      (rw (m .attribute) n)
-      (omega (arith, m .heads, m .others)))
+      (waited later (advance before e) (length (before .roll)) (m .self) (m .older) w (m .place) (rw (m .attribute) (omega arith)))
 
-  -- and a HEAD OF QUEUE one by turn a + b + 1
-  pub waits-head :
-      accepted (before .state) e ≡ t ∷ [] → headTask t ≡ true
-      → count headTask (before .state .tasks) + count otherTask (before .state .tasks) + 1 ≤ turns (advance before e) later
+  -- so by turn a + 5 (b + 1), or a + b + 1 if it is HEAD OF QUEUE
+  pub waits-requested :
+      accepted (before .state) e ≡ t ∷ []
+      → requested (isHead (t .attribute)) (headsAmong (before .state .tasks)) (othersAmong (before .state .tasks)) ≤ turns (advance before e) later
       → hasEnded (play (advance before e) later) (length (before .roll)) ≡ 1
-  waits-head j n l =
-      let m = entered before e t (conserved p es) j in
-      once-ended j
-      (wait-head later (advance before e) (length (before .roll)) (m .self) (m .older) (tested-advance before e (tested-after p es))
-      (m .place)
-      (rw (m .attribute) n)
-      (omega (arith, m .heads, m .others)))
+  waits-requested j l =
+      waits-longest j
+      (omega (arith, longest-requested (headTask t) (count headTask (before .state .tasks)) (count otherTask (before .state .tasks))))
 
   -- demand 3: attribute other than ACA, k older tasks not ended then; ended, once, when there were 5 (k + 1) turns since
   pub waits :
@@ -261,5 +255,9 @@ module _ (p : Policy) (es : List Event) (e : Event) (t : Task) (later : List Eve
       → 5 * (length (before .state .tasks) + 1) ≤ turns (advance before e) later
       → hasEnded (play (advance before e) later) (length (before .roll)) ≡ 1
   waits j a l =
-      let c = count-both (before .state .tasks) in
-      split (headTask t) (λ n. waits-head j n (omega arith)) (λ n. waits-other j n (omega arith))
+      waits-requested j
+      (omega (
+        arith,
+        requested-mission (headTask t) (count headTask (before .state .tasks)) (count otherTask (before .state .tasks)),
+        count-both headTask (before .state .tasks),
+      ))

@@ -5,13 +5,18 @@ use mathlib.Core.Path.{_≡_, refl, ap, sym}
 use mathlib.Core.List.{List, [], _∷_, _++_}
 use mathlib.Core.Option.{none, some}
 use native.Mathlib.Omega.{arith}
+use lib.ListN.{length}
 use Rattle.laws.specs.Lists.{any, count, first, passing}
-use Rattle.laws.proofs.Bools.{or-false, none-some, split}
+use Rattle.laws.proofs.Bools.{or-false, one-both, none-some, split}
 
 module _ {A : Type 0} where
   pub count-append : (p : A → Bool) (xs ys : List A) → count p (xs ++ ys) ≡ count p xs + count p ys
   count-append p [] ys = omega arith
   count-append p (x ∷ xs) ys = omega (arith, count-append p xs ys)
+
+  pub count-both : (p : A → Bool) (xs : List A) → count p xs + count (λ x. not (p x)) xs ≡ length xs
+  count-both p [] = refl
+  count-both p (x ∷ xs) = omega (arith, count-both p xs, one-both (p x))
 
   pub any-append : (p : A → Bool) (xs ys : List A) → any p xs ≡ false → any p (xs ++ ys) ≡ any p ys
   any-append p [] ys e = refl

@@ -204,17 +204,13 @@ event-line k n a b g v =
 -- what is read off a record, field by field, is what its event writes
 pub event-fields :
     (e : List ℕ) (v : Event) → eventOf e ≡ Readable v
-    → eventLine (getD e 2 0) (getD e 3 0) (getD e 4 0) (getD e 5 0) (tagIn e)
-    ≡ eventRecord (getD e 4 0) (tagIn e) v
+    → Spare (getD e 4 0) v
+    × (eventLine (getD e 2 0) (getD e 3 0) (getD e 4 0) (getD e 5 0) (tagIn e) ≡ eventRecord (getD e 4 0) (tagIn e) v)
 unfolding eventOf
 event-fields e v =
-    cases
-    (λ (r : EventRead).
-    r ≡ Readable v
-    → eventLine (getD e 2 0) (getD e 3 0) (getD e 4 0) (getD e 5 0) (tagIn e)
-    ≡ eventRecord (getD e 4 0) (tagIn e) v)
+    cases (λ (r : EventRead). r ≡ Readable v → Line (getD e 2 0) (getD e 3 0) (getD e 4 0) (getD e 5 0) (tagIn e) v)
     (eqb (length e) eventSize && marked e 0x56)
-    (λ q r. event-line _ _ _ _ _ v r .1)
+    (λ q r. event-line _ _ _ _ _ v r)
     (λ q r. absurd (let z : _≡_ {A = ℕ} 0 1 = cc in omega arith))
 
 -- RULES 16.6: every string of bytes that is read is the record of its event, with its own first and tag

@@ -1,12 +1,12 @@
 -- Laws of the turn rule, most of them in a table without ACA.
-use Prim.Native.Nat.{ℕ, _<_}
+use Prim.Native.Nat.{ℕ, _≤_, _<_}
 use mathlib.Core.Bool.{Bool, true, false, _||_, _&&_, not, or-true as or-on}
 use mathlib.Core.Path.{_≡_, refl, ap}
 use mathlib.Core.List.{List, [], _∷_, _++_}
 use mathlib.Core.Option.{Option, none, some}
 use native.Mathlib.Omega.{arith}
 use lib.Dec.{ltb}
-use borrow.Author.Tests.{ltb-true, lt-ltb, not-true}
+use borrow.Author.Tests.{ltb-true, ltb-false, lt-ltb, not-true}
 use Rattle.laws.specs.Lists.{one-if, any, count, first}
 use Rattle.laws.proofs.Bools.{and-true, and-false, or-false, or-true, not-both, none-some, cases, split}
 use Rattle.laws.proofs.Lists.{first-cases, first-passes, first-none, first-stands, first-append}
@@ -38,13 +38,13 @@ no-heads older (t ∷ ts) rest e n =
     split (headTask t) (λ h. not-both (enabled-head older t (ts ++ rest) o h) (k .0))
     (λ h. omega (arith, ap one-if h, no-heads (t .attribute ∷ older) ts rest (o .rest) (k .1)))
 
-head-or-plain : (a : Attribute) → isAca a ≡ false → isHead a ≡ false → isPlain a ≡ true
+pub head-or-plain : (a : Attribute) → isAca a ≡ false → isHead a ≡ false → isPlain a ≡ true
 head-or-plain Simple p q = refl
 head-or-plain HeadOfQueue p q = not-both refl q
 head-or-plain Ordered p q = refl
 head-or-plain Aca p q = not-both refl p
 
-head-is : (a : Attribute) → isHead a ≡ true → a ≡ HeadOfQueue
+pub head-is : (a : Attribute) → isHead a ≡ true → a ≡ HeadOfQueue
 head-is Simple e = not-both e refl
 head-is HeadOfQueue e = refl
 head-is Ordered e = not-both e refl
@@ -72,10 +72,13 @@ else-not-head run u us e b =
     (and-false (any enabledHead (u ∷ us)) (ltb run 4 || not (any enabledPlain (u ∷ us))) b k))
     (λ y. y)
 
--- whom the turn rule names: the oldest HEAD OF QUEUE task, after fewer than four of them if the oldest task is none; or the oldest
+-- whom the turn rule names: the oldest HEAD OF QUEUE task, after fewer than four of them if the oldest task is none; or the oldest, after four
+-- if there is one of them
 named-cases :
     {P : Type 0} (run : ℕ) (u : Task) (us : List Task) (x : Task) → settled [] (u ∷ us) ≡ true → whoseTurn Clear run (u ∷ us) ≡ some x
-    → (first enabledHead (u ∷ us) ≡ some x → (headTask u ≡ false → run < 4) → P) → (u ≡ x → headTask u ≡ false → P) → P
+    → (first enabledHead (u ∷ us) ≡ some x → (headTask u ≡ false → run < 4) → P)
+    → (u ≡ x → headTask u ≡ false → (any enabledHead (u ∷ us) ≡ true → 4 ≤ run) → P)
+    → P
 unfolding whoseTurn
 named-cases {P} run u us x e n f g =
     cases (λ o. o ≡ some x → P) (any enabledHead (u ∷ us) && (ltb run 4 || not (any enabledPlain (u ∷ us))))
@@ -88,7 +91,9 @@ named-cases {P} run u us x e n f g =
     let k = and-true (any enabledHead (u ∷ us)) (ltb run 4 || not (any enabledPlain (u ∷ us))) b .1 in
     let q : any enabledPlain (u ∷ us) ≡ true = rw (oldest-plain u us e nh) in
     not-both q (not-true _ (or-true (ltb run 4) (not (any enabledPlain (u ∷ us))) k l))))))
-    (λ b h. g (let h′ : some u ≡ some x = rw (oldest-enabled u us e) at h in cc) (else-not-head run u us e b))
+    (λ b h.
+    g (let h′ : some u ≡ some x = rw (oldest-enabled u us e) at h in cc) (else-not-head run u us e b)
+    (λ k. ltb-false run 4 (or-false (ltb run 4) _ (and-false (any enabledHead (u ∷ us)) _ b k) .0)))
     n
 
 enabled-at :
@@ -98,15 +103,23 @@ enabled-at older [] t post e h = enabled-head older t post (settled-cons older t
 enabled-at older (u ∷ us) t post e h =
     enabled-at (u .attribute ∷ older) us t post (settled-cons older u (us ++ t ∷ post) e .rest) h
 
--- how a turn comes out for a task that has the tasks pre before it: the named task is that task; or an older HEAD OF QUEUE one; or the oldest, which
--- is none; or, past a task that is none with no older HEAD OF QUEUE ones, a younger HEAD OF QUEUE one after fewer than four
+head-there :
+    (older : List Attribute) (pre : List Task) (t : Task) (post : List Task) → settled older (pre ++ t ∷ post) ≡ true
+    → headTask t ≡ true → any enabledHead (pre ++ t ∷ post) ≡ true
+head-there older [] t post e h = rw (enabled-at older [] t post e h)
+head-there older (u ∷ us) t post e h =
+    rw (head-there (u .attribute ∷ older) us t post (settled-cons older u (us ++ t ∷ post) e .rest) h) (or-on (enabledHead u))
+
+-- how a turn comes out for a task that stands between the tasks pre and post: the named task is that task; or an older HEAD OF QUEUE one; or the
+-- oldest, which is none, past a HEAD OF QUEUE task only after four of them; or, past a task that is none with no older HEAD OF QUEUE ones, a younger
+-- HEAD OF QUEUE one after fewer than four
 pub turn-cases :
     {P : Type 0} (run : ℕ) (pre : List Task) (t : Task) (post : List Task) (x : Task) → settled [] (pre ++ t ∷ post) ≡ true
     → whoseTurn Clear run (pre ++ t ∷ post) ≡ some x
     → (t ≡ x → P)
     → (first enabledHead pre ≡ some x → P)
-    → (first otherTask pre ≡ some x → P)
-    → (headTask t ≡ false → count headTask pre ≡ 0 → run < 4 → headTask x ≡ true → P)
+    → (first otherTask pre ≡ some x → isPlain (x .attribute) ≡ true → (headTask t ≡ true → 4 ≤ run) → P)
+    → (headTask t ≡ false → count headTask pre ≡ 0 → run < 4 → first enabledHead post ≡ some x → P)
     → P
 turn-cases {P} run [] t post x e n hit older plain younger =
     named-cases run t post x e n
@@ -114,8 +127,8 @@ turn-cases {P} run [] t post x e n hit older plain younger =
     first-cases enabledHead t post x h (λ a b. hit b)
     (λ a b.
     split (headTask t) (λ y. not-both (enabled-head [] t post (settled-cons [] t post e) y) a)
-    (λ y. younger y refl (l y) (and-true (headTask x) _ (first-passes enabledHead post x b) .0))))
-    (λ b y. hit b)
+    (λ y. younger y refl (l y) b)))
+    (λ b y k. hit b)
 turn-cases {P} run (u ∷ us) t post x e n hit older plain younger =
     named-cases run u (us ++ t ∷ post) x e n
     (λ h l.
@@ -126,8 +139,10 @@ turn-cases {P} run (u ∷ us) t post x e n hit older plain younger =
     let z : count headTask (u ∷ us) ≡ 0 = no-heads [] (u ∷ us) (t ∷ post) e a in
     younger (split (headTask t) (λ y. not-both (enabled-at [] (u ∷ us) t post e y) c) (λ y. y)) z
     (l (split (headTask u) (λ y. absurd (omega (arith, ap one-if y))) (λ y. y)))
-    (and-true (headTask x) _ (first-passes enabledHead post x d) .0))))
-    (λ b y. plain (rw (y, b)))
+    d)))
+    (λ b y k.
+    plain (rw (y, b)) (rw b at (and-true (isPlain (u .attribute)) _ (oldest-plain u (us ++ t ∷ post) e y) .0))
+    (λ z. k (head-there [] (u ∷ us) t post e z)))
 
 -- whoever is named is the first that passes a test, ACA or not
 named-first : (a : Allegiance) (run : ℕ) (ts : List Task) (x : Task) → whoseTurn a run ts ≡ some x → (p : Task → Bool) × (first p ts ≡ some x)
@@ -233,4 +248,4 @@ named-head-oldest s x w c n h = go (s .tasks) (rw c at n) (clear-settled s w c)
   where
     go : (ts : List Task) → whoseTurn Clear (s .header .run) ts ≡ some x → settled [] ts ≡ true → first enabledHead ts ≡ some x
     go [] k e = none-some x k
-    go (u ∷ us) k e = named-cases (s .header .run) u us x e k (λ a b. a) (λ b y. not-both h (rw b at y))
+    go (u ∷ us) k e = named-cases (s .header .run) u us x e k (λ a b. a) (λ b y k. not-both h (rw b at y))
