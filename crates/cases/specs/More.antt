@@ -3,7 +3,7 @@ use mathlib.Core.List.{List, [], _∷_, _++_}
 use Rattle.cases.specs.Play.{Case}
 use Rattle.cases.specs.Begin.{cleared, tagOrder}
 use Rattle.cases.specs.Errors.{dormantAsAcaBegins, youngerHead, abortTaskSetInAca, causingNexus, oldestHead}
-use Rattle.cases.specs.Turns.{caseK, runStaysFour, orderedTurn, headOutOfTurn, failedTurn, turnInAca}
+use Rattle.cases.specs.Turns.{caseK, runStaysFour, orderedTurn, headOutOfTurn, failedTurn, turnInAca, orderedWaits, headWaits}
 use Rattle.cases.specs.Answers.{lowestIs1, lowestIs2, longReport, lowestIs3, lowestIs4, rejected, starting, namingNobody}
 use Rattle.cases.specs.Answers.{badHeads, badTasks, badWithoutAca, badInAca, unreachable, badEvents, eventLengths}
 use Rattle.cases.specs.Entries.{overlapFirst, overlapSettles, entrySetsUpNoAca, exempt, attributesInAca, rankOrder, bitsInAca, bitsBeforeAttribute}
@@ -29,6 +29,8 @@ more =
     ∷ headOutOfTurn
     ∷ failedTurn
     ∷ turnInAca
+    ∷ orderedWaits
+    ∷ headWaits
     ∷ lowestIs1
     ∷ lowestIs2
     ∷ longReport

@@ -1,4 +1,4 @@
--- RULES 1.15, 1.16 and 2.10 to 2.12: turns and run.
+-- RULES 1.15, 1.16, 2.10 to 2.12, 23.8 and 23.9: turns, run, and the longest waits.
 use mathlib.Core.List.{[], _∷_}
 use Rattle.cases.specs.Makers.{simple, headOfQueue, ordered, aca, dormant, enabled, blocked}
 use Rattle.cases.specs.Makers.{header, task, endedRecord, command, completion, quiet, table, listing}
@@ -74,4 +74,50 @@ turnInAca =
     (name (namesTask 0 9)
     ∷ lend (table (header 0x00 1 1 0) quiet (task 1 headOfQueue blocked 0 1 ∷ []))
     ∷ name nothing
+    ∷ [])
+
+-- RULES 23.9 with a = 1 and b = 0: 2.0 O ends at turn 5, and not sooner, with a new H before each turn that is not the older one's
+abbrev pub orderedWaits : Case
+orderedWaits =
+    from (table (header 0x00 1 0 0) quiet (task 1 headOfQueue enabled 0 0 ∷ []))
+    (enters (command 2 ordered 0 0) (table (header 0x00 2 0 0) quiet (task 1 headOfQueue enabled 0 0 ∷ task 2 ordered dormant 0 0 ∷ []))
+    ∷ name (namesTask 1 0)
+    ∷ does (completion 1 0x00 0) (answerLine 0 0 0 0 0 1) (table (header 0x00 1 0 1) quiet (task 2 ordered enabled 0 0 ∷ []))
+    (listing (endedRecord 1 0x00 0 ∷ []))
+    ∷ enters (command 3 headOfQueue 0 0) (table (header 0x00 2 0 1) quiet (task 2 ordered enabled 0 0 ∷ task 3 headOfQueue enabled 0 0 ∷ []))
+    ∷ name (namesTask 3 0)
+    ∷ does (completion 3 0x00 0) (answerLine 0 0 0 0 0 1) (table (header 0x00 1 0 2) quiet (task 2 ordered enabled 0 0 ∷ []))
+    (listing (endedRecord 3 0x00 0 ∷ []))
+    ∷ enters (command 3 headOfQueue 0 0) (table (header 0x00 2 0 2) quiet (task 2 ordered enabled 0 0 ∷ task 3 headOfQueue enabled 0 0 ∷ []))
+    ∷ name (namesTask 3 0)
+    ∷ does (completion 3 0x00 0) (answerLine 0 0 0 0 0 1) (table (header 0x00 1 0 3) quiet (task 2 ordered enabled 0 0 ∷ []))
+    (listing (endedRecord 3 0x00 0 ∷ []))
+    ∷ enters (command 3 headOfQueue 0 0) (table (header 0x00 2 0 3) quiet (task 2 ordered enabled 0 0 ∷ task 3 headOfQueue enabled 0 0 ∷ []))
+    ∷ name (namesTask 3 0)
+    ∷ does (completion 3 0x00 0) (answerLine 0 0 0 0 0 1) (table (header 0x00 1 0 4) quiet (task 2 ordered enabled 0 0 ∷ []))
+    (listing (endedRecord 3 0x00 0 ∷ []))
+    ∷ enters (command 3 headOfQueue 0 0) (table (header 0x00 2 0 4) quiet (task 2 ordered enabled 0 0 ∷ task 3 headOfQueue enabled 0 0 ∷ []))
+    ∷ name (namesTask 2 0)
+    ∷ does (completion 2 0x00 0) (answerLine 0 0 0 0 0 1)
+    (table (header 0x00 1 0 0) quiet (task 3 headOfQueue enabled 0 0 ∷ [])) (listing (endedRecord 2 0x00 0 ∷ []))
+    ∷ [])
+
+-- RULES 23.9 with a = 1 and b = 2, from run 4: 2.0 H ends at turn 3, behind one of the others and the older H
+abbrev pub headWaits : Case
+headWaits =
+    from (table (header 0x00 3 0 4) quiet (task 0 simple enabled 0 1 ∷ task 0 simple enabled 0 0 ∷ task 1 headOfQueue enabled 0 0 ∷ []))
+    (enters (command 2 headOfQueue 0 0)
+    (table (header 0x00 4 0 4) quiet
+    (task 0 simple enabled 0 1 ∷ task 0 simple enabled 0 0 ∷ task 1 headOfQueue enabled 0 0 ∷ task 2 headOfQueue enabled 0 0 ∷ []))
+    ∷ name (namesTask 0 1)
+    ∷ does (completion 0 0x00 1) (answerLine 0 0 0 0 0 1)
+    (table (header 0x00 3 0 0) quiet (task 0 simple enabled 0 0 ∷ task 1 headOfQueue enabled 0 0 ∷ task 2 headOfQueue enabled 0 0 ∷ []))
+    (listing (endedRecord 0 0x00 1 ∷ []))
+    ∷ name (namesTask 1 0)
+    ∷ does (completion 1 0x00 0) (answerLine 0 0 0 0 0 1)
+    (table (header 0x00 2 0 1) quiet (task 0 simple enabled 0 0 ∷ task 2 headOfQueue enabled 0 0 ∷ []))
+    (listing (endedRecord 1 0x00 0 ∷ []))
+    ∷ name (namesTask 2 0)
+    ∷ does (completion 2 0x00 0) (answerLine 0 0 0 0 0 1) (table (header 0x00 1 0 2) quiet (task 0 simple enabled 0 0 ∷ []))
+    (listing (endedRecord 2 0x00 0 ∷ []))
     ∷ [])
