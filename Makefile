@@ -102,12 +102,14 @@ $(eval $(call program,tests,compare,tests/compare/*.c second/*.c,tests/compare/*
 $(eval $(call program,tests,pages,tests/pages/*.c,tests/pages/*.h second/layout.h,-Isecond))
 $(eval $(call program,tests,outside,tests/outside/*.c text/*.c,tests/outside/*.h text/*.h,-Itext))
 $(eval $(call program,tests,replay,tests/cases/*.c,tests/cases/*.h,))
+$(eval $(call program,tests,waits,tests/waits/*.c,tests/waits/*.h,))
+$(eval $(call program,tests,waits-second,tests/waits/*.c second/*.c,tests/waits/*.h second/*.h,-Isecond -DSECOND))
 $(eval $(call program,tests,steady,bench/steady.c,second/*.h,-Isecond))
 $(eval $(call program,tests,steady-second,bench/steady.c second/*.c,second/*.h,-Isecond -DSECOND))
 $(eval $(call program,tests,largest,bench/largest.c,,))
 
 # One after the other, the quick ones first. The last line is that of `rt ci`: N passed, 0 failed.
-TESTS := need header crates names promises opened clauses install cost port driver outside try player pages cases usage compare
+TESTS := need header crates names promises opened clauses install cost port driver outside try player pages cases waits usage compare
 .PHONY: test
 test:
 	@for test in $(TESTS); do \
@@ -177,7 +179,7 @@ test-player: build/bin/player tests/player
 	tests/player build/bin/player
 
 # Each program of build/tests, called wrongly.
-test-usage: $(addprefix build/tests/,compare cost header largest outside pages port replay steady) tests/usage
+test-usage: $(addprefix build/tests/,compare cost header largest outside pages port replay steady waits) tests/usage
 	tests/usage
 
 test-try: build/bin/try $(SANITIZED:%=build/tests/try%) tests/try/run
@@ -186,6 +188,15 @@ test-try: build/bin/try $(SANITIZED:%=build/tests/try%) tests/try/run
 # The cases over the archive, and what the program that plays them does with input that they don't have.
 test-cases: build/tests/replay $(SANITIZED:%=build/tests/replay%)
 	@for replay in $(abspath $^); do tests/cases/run $(RUN) "$$replay"; tests/cases/try-frames $(RUN) "$$replay"; done
+
+# The longest waits, over the archive and over the second implementation, and the page that quotes them.
+test-waits: build/tests/waits build/tests/waits-second $(SANITIZED:%=build/tests/waits%) $(SANITIZED:%=build/tests/waits-second%) tests/waits/page
+	$(RUN) build/tests/waits
+	$(RUN) build/tests/waits-second
+	$(SANITIZED:%=build/tests/waits%)
+	$(SANITIZED:%=build/tests/waits-second%)
+	tests/waits/page $(RUN) build/tests/waits
+	$(call faults,waits)
 
 # Not sanitized: a sanitizer has its own way with stacks.
 test-cost: build/tests/cost
