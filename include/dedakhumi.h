@@ -17,7 +17,8 @@
       state is enabled, side by side: any of them may be completed. If another task is named while one runs, the one that runs goes on.
    6. The wait that is promised (RULES 23.5): a task accepted with another attribute than ACA while k older tasks were in the table has
       ended by the 5 x (k + 1)th turn after that, whatever else comes between. A turn is a COMPLETION, answered 0, of the task that
-      dedakhumi_name gives just before it, with no ACA then; so the promise is worth something where the named task is run.
+      dedakhumi_name gives just before it, with no ACA then; so the promise is worth something where the named task is run. RULES 23.8 has
+      the longest wait there is, by how many HEAD OF QUEUE tasks and how many others were in the table.
    Whose turn it is (RULES 2.10 to 2.12): with an ACA it is that of the ACA task, if there is one, and else nobody's. Without one it is that
    of the oldest enabled HEAD OF QUEUE task, unless there is none, or the last four turns were such tasks' (run is 4) and a SIMPLE or
    ORDERED task is enabled: then it is that of the oldest enabled task.
