@@ -2,15 +2,16 @@
 use Prim.Native.Nat.{ℕ, zero, suc, _+_, _≤_, _<_}
 use mathlib.Core.Path.{_≡_, refl, ap, sym, _∙_}
 use mathlib.Core.Bool.{Bool, true, false}
-use mathlib.Core.List.{List, [], _∷_, _++_, map, append-cancel-left}
+use mathlib.Core.List.{List, [], _∷_, _++_, map, append-nil, append-assoc, append-cancel-left}
 use native.Mathlib.Omega.{arith}
 use lib.Dec.{eqb, leb}
 use lib.ListN.{getD, replicate, length-replicate}
 use borrow.Author.Tests.{leb-true, leb-false}
 use Rattle.laws.specs.Lists.{one-if, any}
 use Rattle.laws.proofs.Bools.{not-both, split}
+use Rattle.laws.proofs.Lists.{any-append}
 use Rattle.octets.specs.Sizes.{firstOffset}
-use Rattle.rules.specs.Types.{Known, Entry, Finish, Event, Command, Completion, Policy}
+use Rattle.rules.specs.Types.{Known, Entry, Finish, Event, Command, Completion, Policy, Named}
 use Rattle.rules.specs.Tasks.{places, isAca}
 use Rattle.rules.specs.Rulings.{State, endedName, sameName}
 use Rattle.rules.proofs.WellKept.{Tested}
@@ -27,7 +28,7 @@ use Rattle.history.proofs.Least.{Met, met}
 use Rattle.operations.specs.Operations.{started}
 use Rattle.numbers.specs.Boundary.{startNumber}
 use Rattle.demands.specs.Calls.{Call, applied, tableBy, opened}
-use Rattle.demands.specs.Seen.{eventName, listedBy, isListed, isTurnBy, turnsBy}
+use Rattle.demands.specs.Seen.{eventName, listed, listedBy, isListed, isTurnBy, turnsBy}
 use Rattle.demands.specs.WorstCalls.{callItself, callsBefore, callsBegun, callsSince, callEnd, StillThere}
 use Rattle.demands.specs.Demands.{EndedBy, Holds, WaitsLongest}
 use Rattle.demands.proofs.Reading.{event-reads, known-asked, head-byte, present-is}
@@ -124,27 +125,38 @@ turns-then : (t : List ℕ) (ms : List Call) (m : Call) → turnsBy t (ms ++ (m 
 turns-then t [] m = omega arith
 turns-then t (n ∷ ms) m = omega (arith, turns-then ((applied t n) .table) ms m)
 
--- and by the turn of the figure itself, its own, it has ended
+listed-then : (t : List ℕ) (ms : List Call) (m : Call) → listedBy t (ms ++ (m ∷ [])) ≡ listedBy t ms ++ listed (tableBy t ms) m
+listed-then t [] m = append-nil (listed t m)
+listed-then t (n ∷ ms) m =
+    ap (λ (l : List Named). listed t n ++ l) (listed-then ((applied t n) .table) ms m)
+    ∙ sym (append-assoc (listed t n) (listedBy ((applied t n) .table) ms) (listed (tableBy ((applied t n) .table) ms) m))
+
+-- and its own completion is the turn of the figure, whose report lists it
 pub ends-by-its-turn :
     (t : List ℕ) (c x a b : ℕ) (f : Finish) → startNumber t c ≡ 0 → x ≤ 2 → a + b < places
     → (turnsBy (tableBy ((started t c) .table) (callsBegun x a b)) (callsSince x a b ++ (callEnd f ∷ [])) ≡ longest (eqb x 1) a b)
-    × (isListed itself (listedBy (tableBy ((started t c) .table) (callsBegun x a b)) (callsSince x a b ++ (callEnd f ∷ []))) ≡ true)
+    × (isListed itself (listed (tableBy ((started t c) .table) (callsBegun x a b ++ callsSince x a b)) (callEnd f)) ≡ true)
 ends-by-its-turn t c x a b f q few room =
     let begun = tableBy ((started t c) .table) (callsBegun x a b) in
     let m = met-in-bytes t c x a b q few room in
-    let own : isTurnBy (tableBy begun (callsSince x a b)) (callEnd f) ≡ true =
-    rw (← (table-then ((started t c) .table) (callsBegun x a b) (callsSince x a b))) (m .next f)
-    in
+    let there = table-then ((started t c) .table) (callsBegun x a b) (callsSince x a b) in
+    let own : isTurnBy (tableBy begun (callsSince x a b)) (callEnd f) ≡ true = rw (← there) (m .next f) in
     let count : turnsBy begun (callsSince x a b ++ (callEnd f ∷ [])) ≡ longest (eqb x 1) a b =
     turns-then begun (callsSince x a b) (callEnd f) ∙ omega (arith, ap one-if own, m .turns)
+    in
+    let ended : isListed itself (listedBy begun (callsSince x a b ++ (callEnd f ∷ []))) ≡ true =
+    rw (← (m .called))
+    (longest-in-bytes c x a b (λ e. omega arith) t (callsBefore x a b) (callItself x) (callsSince x a b ++ (callEnd f ∷ [])) q (m .accepted)
+    (m .asked)
+    (m .heads)
+    (m .others)
+    (omega (arith, count)))
     in (
       count,
-      rw (← (m .called))
-          (longest-in-bytes c x a b (λ e. omega arith) t (callsBefore x a b) (callItself x) (callsSince x a b ++ (callEnd f ∷ [])) q (m .accepted)
-          (m .asked)
-          (m .heads)
-          (m .others)
-          (omega (arith, count))),
+      ap (λ (l : List ℕ). isListed itself (listed l (callEnd f))) there
+          ∙ sym (any-append (sameName itself) (listedBy begun (callsSince x a b)) (listed (tableBy begun (callsSince x a b)) (callEnd f)) (m .unlisted))
+          ∙ ap (any (sameName itself)) (sym (listed-then begun (callsSince x a b) (callEnd f)))
+          ∙ ended,
     )
 
 pub exact-in-bytes : WaitsLongest
