@@ -10,6 +10,7 @@
 --   pendingOffset, pendingsAt  := where a nexus record has the pending bits; where the first does, in a table
 --   nexusOffset, attributeOffset, stateOffset, controlOffset  := where a task record has nexus, attribute, state and control
 --   attributesAt, statesAt    := where the first task record of a table has attribute and state
+--   statusOffset              := where an ended record has its status; its nexus stands where a task record has it
 --   kindOffset, senderOffset, firstOffset, secondOffset  := where an event record has kind, nexus, first and second
 use Prim.Native.Nat.{ℕ, _+_, _*_, _^_}
 use Rattle.values.specs.Limits.{places, nexuses}
@@ -99,6 +100,10 @@ attributesAt = tasksAt + attributeOffset
 
 abbrev pub statesAt : ℕ
 statesAt = tasksAt + stateOffset
+
+-- RULES 13.4 and 15.5: that of an ended record
+abbrev pub statusOffset : ℕ
+statusOffset = 3
 
 -- RULES 13.4 and 16.6: those of an event
 abbrev pub kindOffset : ℕ

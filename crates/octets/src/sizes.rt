@@ -65,3 +65,6 @@ pub const CONTROL_OFFSET: usize = 5;
 pub const ATTRIBUTES_AT: usize = TASKS_AT + ATTRIBUTE_OFFSET;
 
 pub const STATES_AT: usize = TASKS_AT + STATE_OFFSET;
+
+// In an ended record, which has its nexus where a task record has it.
+pub const STATUS_OFFSET: usize = 3;

@@ -1,12 +1,11 @@
 -- RULES 24: what the player writes for event bytes, piece by piece.
 --
---   pieces n              := how many pieces n bytes make: whole records, and a shorter last one
 --   Run                   := the lines written, and the table and the report buffer afterwards
 --   behind ls p           := the run p with the lines ls before its own
 --   played n t r es       := the run over the first n pieces of es, from the table t and the report buffer r
 --   OnePlayed o ..        := what the buffers at exit have to be after one piece that apply answered with o, its line put at `at` of `out`
 --   PlayedAs p ..         := what the buffers at exit have to be, with lines up to `end` of `out`
-use Prim.Native.Nat.{ℕ, zero, suc, _+_, _-_, _/_, _≤_}
+use Prim.Native.Nat.{ℕ, zero, suc, _+_, _≤_}
 use mathlib.Core.Path.{_≡_}
 use mathlib.Core.List.{List, [], _++_}
 use lib.ListN.{take, drop}
@@ -15,10 +14,6 @@ use Rattle.records.specs.Records.{eventSize}
 use Rattle.operations.specs.Operations.{Outcome, outcome}
 use Rattle.numbers.specs.Boundary.{answered}
 use Rattle.lines.specs.Lines.{line, Written}
-
--- RULES 24.3 and 24.4: every eighth byte, and a last piece
-abbrev pub pieces : ℕ → ℕ
-pieces n = (n + (eventSize - 1)) / eventSize
 
 -- RULES 24.1: one line for each piece
 pub record Run : Type 0 where

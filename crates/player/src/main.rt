@@ -11,7 +11,7 @@ use octets::sizes::REPORT_SIZE;
 use octets::sizes::TABLE_SIZE;
 ghost use Prim.Native.Nat.{_*_, _≤_};
 ghost use lib.ListN.{length};
-ghost use Rattle.player.specs.Played.{pieces};
+ghost use Rattle.records.specs.Events.{pieces};
 
 // So many records are read at a time, and their lines written, each of at most 20 bytes.
 const RECORDS: usize = 4096;

@@ -6,7 +6,8 @@ ghost use Prim.Native.Nat.{_+_, _*_, _≤_, min};
 ghost use mathlib.Core.Path.{_≡_};
 ghost use lib.ListN.{length};
 ghost use Rattle.operations.specs.Operations.{outcome};
-ghost use Rattle.player.specs.Played.{pieces, played, OnePlayed, PlayedAs};
+ghost use Rattle.records.specs.Events.{pieces};
+ghost use Rattle.player.specs.Played.{played, OnePlayed, PlayedAs};
 
 fn play_one(table: &mut [u8], report: &mut [u8], event: &[u8], out: &mut [u8], at: usize) -> usize
     requires { ⌜ at + 20 ≤ length (now out) ⌝ }

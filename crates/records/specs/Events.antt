@@ -2,6 +2,7 @@
 --
 --   eventFrom k n a b g := the event of kind k, nexus n, first a, second b and tag g, or that there is none
 --   eventOf bytes       := the event of a string of bytes, or that there is none
+--   pieces n            := how many pieces n bytes of event records make: whole records, and a shorter last one
 --   eventLine k n a b g := the record of kind k, nexus n, first a, second b and tag g
 --   askedNumber a, finishNumber, functionNumber a, happeningNumber   := the field first of a value, a where the value does not keep it
 --   secondNumber c, functionTag g f, happeningNexus h   := the field second of a COMMAND, tag of a function, nexus of a condition
@@ -9,7 +10,7 @@
 --   eventBytes v        := one record of the event v
 --   Spare a v           := a may stand for the field first in a record of v; asked only where v does not keep it
 --   IsEvent bytes       := the bytes are the record of an event
-use Prim.Native.Nat.{ℕ, _+_, _*_, _<_}
+use Prim.Native.Nat.{ℕ, _+_, _-_, _*_, _/_, _<_}
 use mathlib.Core.Path.{_≡_}
 use mathlib.Core.Logic.{_⊎_}
 use mathlib.Core.Bool.{Bool, true, false, cond, _||_, _&&_}
@@ -78,6 +79,10 @@ eventOf e =
     cond (eqb (length e) eventSize && marked e 0x56)
     (eventFrom (getD e kindOffset 0) (getD e senderOffset 0) (getD e firstOffset 0) (getD e secondOffset 0) (tagIn e))
     EventRead.Unreadable
+
+-- RULES 24.3 and 24.4: every eighth byte, and a last piece
+abbrev pub pieces : ℕ → ℕ
+pieces n = (n + (eventSize - 1)) / eventSize
 
 -- Writing ----------------------------------------------------------------------------------------------------------------------------------
 

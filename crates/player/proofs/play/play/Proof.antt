@@ -6,7 +6,8 @@ use mathlib.Core.List.{List, append-nil}
 use lib.ListN.{length, take, drop}
 use Rattle.io.proofs.Counting.{counts}
 use Rattle.records.specs.Records.{eventSize}
-use Rattle.player.specs.Played.{Run, pieces, behind, played}
+use Rattle.records.specs.Events.{pieces}
+use Rattle.player.specs.Played.{Run, behind, played}
 use Rattle.player.proofs.Pieces.{piece, onward, begun}
 use Rattle.player.proofs.play.play.Statement.{statement}
 use Rattle.player.proofs.play.play.Tie as tie
