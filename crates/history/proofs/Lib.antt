@@ -15,3 +15,4 @@ pub mod Worst
 pub mod Least
 pub mod Lasting
 pub mod Examples
+pub mod Balance

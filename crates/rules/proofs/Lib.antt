@@ -19,3 +19,4 @@ pub mod RulingCases
 pub mod NewTasks
 pub mod FreshSet
 pub mod WellParts
+pub mod EndStatuses
