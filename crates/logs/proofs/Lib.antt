@@ -1,0 +1,5 @@
+pub mod Reading
+pub mod Events
+pub mod Stands
+pub mod Onward
+pub mod Walked
