@@ -13,7 +13,7 @@ fn digit(d: u8) -> u8
     if d < 10 { 48 + d } else { 55 + d }
 }
 
-fn put(out: &mut [u8], at: usize, byte: u8) -> usize
+pub fn put(out: &mut [u8], at: usize, byte: u8) -> usize
     requires { ⌜ at < length (now out) ⌝ }
     ensures { λ r. ⌜ Written (now (out .entry)) at (now (out .exit)) r (byte ∷ []) ⌝ }
 {
@@ -37,7 +37,7 @@ fn put_decimal(out: &mut [u8], at: usize, n: u8) -> usize
     put(out, units, digit(n % 10))
 }
 
-fn put_hex(out: &mut [u8], at: usize, n: u8) -> usize
+pub fn put_hex(out: &mut [u8], at: usize, n: u8) -> usize
     requires { ⌜ at + 3 ≤ length (now out) ⌝ }
     ensures { λ r. ⌜ Written (now (out .entry)) at (now (out .exit)) r (hex n) ⌝ }
 {
