@@ -40,13 +40,13 @@ export CC CXX NM RUN VERSION HEADER ARCHIVE
 CRATES := crates.txt $(shell find crates -type f)
 
 .PHONY: all
-all: $(ARCHIVE) build/include/dedakhumi.h build/bin/player build/bin/try build/bin/night
+all: $(ARCHIVE) build/include/dedakhumi.h build/bin/player build/bin/totals build/bin/try build/bin/night
 
 # rt's own archive, kept apart so that a word changed in the header proves nothing anew.
 PROVED := build/tests/proved.a
 $(PROVED): $(CRATES)
 	@tests/need make
-	@echo "make: proves the library, crate by crate from the ground up, with a line for each; then the player. 4 to 7 minutes on two cores."
+	@echo "make: proves the library, crate by crate from the ground up, with a line for each; then the player and totals. 4 to 7 minutes on two cores."
 	rt staticlib dedakhumi
 	@mkdir -p $(@D)
 	cp target/staticlib/libdedakhumi.a $@
@@ -57,10 +57,10 @@ $(ARCHIVE): $(PROVED) package/interface.c $(HEADER)
 	cp $(PROVED) $@
 	$(AR) rs $@ build/tests/interface.o
 
-build/bin/player: $(CRATES)
-	rt check player
+build/bin/player build/bin/totals: build/bin/%: $(CRATES)
+	rt check $*
 	@mkdir -p $(@D)
-	cp target/bin/player $@
+	cp target/bin/$* $@
 
 build/include/dedakhumi.h: $(HEADER)
 	@mkdir -p $(@D)
@@ -104,12 +104,14 @@ $(eval $(call program,tests,outside,tests/outside/*.c text/*.c,tests/outside/*.h
 $(eval $(call program,tests,replay,tests/cases/*.c,tests/cases/*.h,))
 $(eval $(call program,tests,waits,tests/waits/*.c,tests/waits/*.h,))
 $(eval $(call program,tests,waits-second,tests/waits/*.c second/*.c,tests/waits/*.h second/*.h,-Isecond -DSECOND))
+$(eval $(call program,tests,totals-twin,tests/totals/twin.c second/*.c,second/*.h,-Isecond))
+$(eval $(call program,tests,totals-log,tests/totals/write.c second/*.c,tests/compare/random.h second/*.h,-Isecond))
 $(eval $(call program,tests,steady,bench/steady.c,second/*.h,-Isecond))
 $(eval $(call program,tests,steady-second,bench/steady.c second/*.c,second/*.h,-Isecond -DSECOND))
 $(eval $(call program,tests,largest,bench/largest.c,,))
 
 # One after the other, the quick ones first. The last line is that of `rt ci`: N passed, 0 failed.
-TESTS := need header crates names promises opened clauses install cost port driver outside try player pages cases waits usage compare
+TESTS := need header crates names promises opened clauses install cost port driver outside try player totals pages cases waits usage compare
 .PHONY: test
 test:
 	@for test in $(TESTS); do \
@@ -178,8 +180,13 @@ test-outside: build/tests/outside $(SANITIZED:%=build/tests/outside%) tests/outs
 test-player: build/bin/player tests/player
 	tests/player build/bin/player
 
+# By hand, and against a twin over the second implementation, on logs that are written for it.
+test-totals: build/bin/totals build/tests/totals-twin build/tests/totals-log tests/totals/run
+	tests/totals/run $(filter build/%,$^)
+	$(call faults,totals)
+
 # Each program of build/tests, called wrongly.
-test-usage: $(addprefix build/tests/,compare cost header largest outside pages port replay steady waits) tests/usage
+test-usage: $(addprefix build/tests/,compare cost header largest outside pages port replay steady totals-log totals-twin waits) tests/usage
 	tests/usage
 
 test-try: build/bin/try $(SANITIZED:%=build/tests/try%) tests/try/run
