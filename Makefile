@@ -46,7 +46,7 @@ all: $(ARCHIVE) build/include/dedakhumi.h build/bin/player build/bin/totals buil
 PROVED := build/tests/proved.a
 $(PROVED): $(CRATES)
 	@tests/need make
-	@echo "make: proves the library, crate by crate from the ground up, with a line for each; then the player and totals. 4 to 7 minutes on two cores."
+	@echo "make: proves the library, crate by crate from the ground up, with a line for each; then the player and totals. 4 to 10 minutes on two cores."
 	rt staticlib dedakhumi
 	@mkdir -p $(@D)
 	cp target/staticlib/libdedakhumi.a $@
