@@ -99,11 +99,11 @@ begins =
       tells =
           record {
             long = length-replicate {A = ℕ} counters 0;
-            ends = λ s h. zero-at counters s (omega arith);
-            entry = λ s h. zero-at counters (entryAt + s) (omega arith);
-            accepted = zero-at counters acceptedAt (omega arith);
-            largest = zero-at counters largestAt (omega arith);
-            left = rw (fresh-tasks (policyFrom 0)) (zero-at counters leftAt (omega arith));
+            ends = λ s h. zero-at counters s;
+            entry = λ s h. zero-at counters (entryAt + s);
+            accepted = zero-at counters acceptedAt;
+            largest = zero-at counters largestAt;
+            left = rw (fresh-tasks (policyFrom 0)) (zero-at counters leftAt);
           };
     })
     refl

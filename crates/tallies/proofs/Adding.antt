@@ -98,9 +98,9 @@ shows-none =
     tells-shows (replicate counters 0) noTally (none-whole .ends) (none-whole .entry)
     (record {
       long = length-replicate {A = ℕ} counters 0;
-      ends = λ s h. zero-at counters s (omega arith) ∙ ap capped (sym (zero-at statuses s h));
-      entry = λ s h. zero-at counters (entryAt + s) (omega arith) ∙ ap capped (sym (zero-at statuses s h));
-      accepted = zero-at counters acceptedAt (omega arith);
-      largest = zero-at counters largestAt (omega arith);
-      left = zero-at counters leftAt (omega arith);
+      ends = λ s h. zero-at counters s ∙ ap capped (sym (zero-at statuses s));
+      entry = λ s h. zero-at counters (entryAt + s) ∙ ap capped (sym (zero-at statuses s));
+      accepted = zero-at counters acceptedAt;
+      largest = zero-at counters largestAt;
+      left = zero-at counters leftAt;
     })

@@ -22,11 +22,6 @@ pub length-once-more : (k : ℕ) (c : List ℕ) → length (onceMore k c) ≡ le
 unfolding onceMore
 length-once-more k c = length-set c k _
 
-pub length-count-ends : (n : ℕ) (r c : List ℕ) → length (countEnds n r c) ≡ length c
-unfolding countEnds
-length-count-ends zero r c = refl
-length-count-ends (suc n) r c = length-count-ends n (drop endedSize r) _ ∙ length-once-more (getD r statusOffset 0) c
-
 -- a loop's turn
 pub count-ends-step : (n i : ℕ) (r c c′ : List ℕ) → i < n → c′ ≡ onceMore (getD r (endedSize * i + statusOffset) 0) c
     → countEnds (n - i) (drop (endedSize * i) r) c ≡ countEnds (n - (i + 1)) (drop (endedSize * (i + 1)) r) c′

@@ -3,7 +3,7 @@ use Prim.Native.Nat.{ℕ, zero, suc, _+_, _-_, _^_, _<_, _≤_, max, min}
 use native.Mathlib.Omega.{arith}
 use mathlib.Core.Path.{_≡_, refl, _∙_, ap, sym}
 use mathlib.Core.List.{List, [], _∷_, map}
-use lib.ListN.{length, getD, replicate, getD-replicate, List·getD-map}
+use lib.ListN.{length, getD, replicate, List·getD-map}
 use Rattle.tallies.specs.Tally.{eachFrom, sums, sum, capped}
 
 pub length-each : (n s : ℕ) (f : ℕ → ℕ) → length (eachFrom n s f) ≡ n
@@ -16,12 +16,6 @@ unfolding eachFrom
 getD-each zero s f i h = absurd (omega arith)
 getD-each (suc n) s f zero h = ap f (omega arith)
 getD-each (suc n) s f (suc i) h = getD-each n (suc s) f i (omega arith) ∙ ap f (omega arith)
-
-pub each-same : (n s : ℕ) (f g : ℕ → ℕ) → ((i : ℕ) → s ≤ i → i < s + n → f i ≡ g i) → eachFrom n s f ≡ eachFrom n s g
-unfolding eachFrom
-each-same zero s f g e = refl
-each-same (suc n) s f g e =
-    λ i. e s (omega arith) (omega arith) i ∷ each-same n (suc s) f g (λ k l m. e k (omega arith) (omega arith)) i
 
 pub sum-each-none : (n s : ℕ) → sum (eachFrom n s (λ k. 0)) ≡ 0
 unfolding eachFrom
@@ -54,13 +48,10 @@ sum-sums [] (y ∷ b) e = absurd (omega arith)
 sum-sums (x ∷ a) [] e = absurd (omega arith)
 sum-sums (x ∷ a) (y ∷ b) e = omega (arith, sum-sums a b (omega arith))
 
-pub zero-at : (n i : ℕ) → i < n → getD {A = ℕ} (replicate n 0) i 0 ≡ 0
-zero-at n i h = getD-replicate {A = ℕ} n i 0 0 h
-
-pub zeros-everywhere : (n i : ℕ) → getD {A = ℕ} (replicate n 0) i 0 ≡ 0
-zeros-everywhere zero i = refl
-zeros-everywhere (suc n) zero = refl
-zeros-everywhere (suc n) (suc i) = zeros-everywhere n i
+pub zero-at : (n i : ℕ) → getD {A = ℕ} (replicate n 0) i 0 ≡ 0
+zero-at zero i = refl
+zero-at (suc n) zero = refl
+zero-at (suc n) (suc i) = zero-at n i
 
 -- Caps -------------------------------------------------------------------------------------------------------------------------------------
 

@@ -5,7 +5,7 @@ use mathlib.Core.Path.{_≡_, refl, _∙_, sym}
 use mathlib.Core.List.{List, [], _∷_, map}
 use lib.ListN.{length, getD, replicate}
 use Rattle.tallies.specs.Tally.{statuses, Tally, tallyOf, noTally, plus, onward, together, sum}
-use Rattle.tallies.proofs.Numbered.{getD-sums, zeros-everywhere}
+use Rattle.tallies.proofs.Numbered.{getD-sums, zero-at}
 use Rattle.tallies.proofs.Adding.{Whole, log-whole, plus-whole, none-whole}
 
 abbrev pub greatest : List ℕ → ℕ
@@ -42,9 +42,9 @@ together-largest ts = onward-largest noTally ts ∙ omega arith
 pub together-ends : (ls : List (List ℕ)) (s : ℕ) → getD ((together (map tallyOf ls)) .ends) s 0 ≡ sum (map (λ l. getD ((tallyOf l) .ends) s 0) ls)
 together-ends ls s =
     onward-each (λ t. t .ends) s (λ a b v w. getD-sums (a .ends) (b .ends) s (v .ends ∙ sym (w .ends))) noTally ls none-whole
-    ∙ omega (arith, zeros-everywhere statuses s)
+    ∙ omega (arith, zero-at statuses s)
 
 pub together-entry : (ls : List (List ℕ)) (s : ℕ) → getD ((together (map tallyOf ls)) .entry) s 0 ≡ sum (map (λ l. getD ((tallyOf l) .entry) s 0) ls)
 together-entry ls s =
     onward-each (λ t. t .entry) s (λ a b v w. getD-sums (a .entry) (b .entry) s (v .entry ∙ sym (w .entry))) noTally ls none-whole
-    ∙ omega (arith, zeros-everywhere statuses s)
+    ∙ omega (arith, zero-at statuses s)

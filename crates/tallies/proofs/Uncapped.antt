@@ -26,7 +26,7 @@ use Rattle.history.proofs.Reached.{tested-advance}
 use Rattle.history.proofs.Balance.{recorded}
 use Rattle.demands.specs.Calls.{readIn}
 use Rattle.tallies.specs.Tally.{eventsFrom, eventsOf, statuses, Tally, byStatus, hasStatus, endsWith, isEntryWith, entriesWith, largestOver, tallyOver, tallyOf, noTally, plus, onward, together, sum, capped, cappedTally}
-use Rattle.tallies.proofs.Numbered.{zeros-everywhere, length-each, getD-each, length-sums, getD-sums, capped-small, getD-capped}
+use Rattle.tallies.proofs.Numbered.{zero-at, length-each, getD-each, length-sums, getD-sums, capped-small, getD-capped}
 
 one-most : (b : Bool) → one-if b ≤ 1
 one-most true = omega arith
@@ -144,8 +144,8 @@ none-within =
       ends-long = length-replicate {A = ℕ} statuses 0;
       entry-long = length-replicate {A = ℕ} statuses 0;
       accepted = omega arith;
-      ends = λ i. omega (arith, zeros-everywhere statuses i);
-      entry = λ i. omega (arith, zeros-everywhere statuses i);
+      ends = λ i. omega (arith, zero-at statuses i);
+      entry = λ i. omega (arith, zero-at statuses i);
       largest = omega arith;
       left = omega arith;
     }
