@@ -19,7 +19,7 @@ use Rattle.rules.proofs.Fates.{isEnds}
 use Rattle.rules.proofs.Settled.{is-aca}
 use Rattle.rules.proofs.Held.{held-found}
 use Rattle.rules.proofs.TurnRule.{named-found}
-use Rattle.rules.proofs.Cases.{enter-cases, completion-cases, other-cases}
+use Rattle.rules.proofs.Cases.{failing-run, enter-cases, completion-cases, other-cases}
 use Rattle.rules.proofs.WellKept.{Tested}
 use Rattle.history.specs.History.{turnBy}
 
@@ -140,7 +140,7 @@ effect s e w =
     completion-cases (EffectR s (Completion n g f)) s n g f (not-accepted s n g) (not-accepted s n g) (not-accepted s n g)
     (λ t l h k. effect-finish s n g f t w h k))
     (λ c l.
-    enter-cases (EffectR s (Command c)) (s .header) c _ _ _ (λ se v o. no-turn s _ (inl refl)) (λ st. refl) (λ p. no-turn s _ (inl refl)))
+    enter-cases (EffectR s (Command c)) (s .header) c _ _ _ (λ se v o. no-turn s _ (inl (failing-run (s .header) c v o))) (λ st. refl) (λ p. no-turn s _ (inl refl)))
     (λ n f. effect-manage s n f)
     (λ c. effect-happen s c)
     e

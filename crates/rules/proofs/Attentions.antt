@@ -1,27 +1,27 @@
 -- What each event does to each pending bit of each nexus: the rules agree with specs/Attentions.
 use Prim.Native.Nat.{ℕ, zero, suc, _+_, _<_}
-use mathlib.Core.Bool.{Bool, true, false, cond, _&&_, not, and-false as and-off, or-false as or-off}
-use mathlib.Core.Path.{_≡_, refl, ap, sym, _∙_}
+use mathlib.Core.Bool.{Bool, true, false, cond, _&&_, not, and-true as and-on, and-false as and-off, or-false as or-off}
+use mathlib.Core.Path.{_≡_, refl, ap, _∙_}
 use mathlib.Core.List.{List, [], _∷_, map}
 use mathlib.Core.Option.{Option, none, some}
 use native.Mathlib.Omega.{arith}
 use lib.Dec.{eqb, ltb}
-use lib.ListN.{length, getD}
+use lib.ListN.{length, getD, set, length-set}
 use lib.Seq.{getD-set-same, getD-set-other}
 use borrow.Author.Tests.{not-true, ltb-true, lt-ltb, eqb-true, eqb-false, eq-eqb}
 use Rattle.laws.specs.Lists.{any, first}
 use Rattle.laws.proofs.Bools.{and-true, cases, split}
-use Rattle.laws.proofs.Lists.{any-less, first-passes}
-use Rattle.rules.specs.Types.{Task, Entry, Finish, Good, CheckCondition, Function, AbortTask, AbortTaskSet, ClearTaskSet, ClearAca, LogicalUnitReset, Unknown, Happening, PowerOn, HardReset, NexusLoss, Event, Command, Completion, Management, Condition, Qerr, EndNone, EndAll, EndNexus, Allegiance, Clear, Faulted, Pending, Bit, PowerBit, HardBit, UnitBit, LossBit, ClearedBit, Top, NoBit, Highest, EndedAtEntry, Sweep, Nobody, ClearedBy, FailedTask, Ruling}
+use Rattle.laws.proofs.Lists.{any-less, first-passes, first-any, first-none}
+use Rattle.rules.specs.Types.{Task, Entry, Finish, Good, CheckCondition, Function, AbortTask, AbortTaskSet, ClearTaskSet, ClearAca, LogicalUnitReset, Unknown, Happening, PowerOn, HardReset, NexusLoss, Event, Command, Completion, Management, Condition, Qerr, EndNone, EndAll, EndNexus, Allegiance, Clear, Faulted, Pending, Bit, PowerBit, HardBit, UnitBit, LossBit, ClearedBit, Top, NoBit, Highest, EndedAtEntry, Sense, Sweep, ClearedBy, FailedTask, Done, Ruling, Changes}
 use Rattle.rules.specs.Tasks.{nexuses, acaTask, ofNexus, same, isEnabled, enabledTask, isNamed}
-use Rattle.rules.specs.Bits.{noPending, senseFor, without, afterPowerOn, afterHardReset, afterUnitReset, afterNexusLoss, afterCleared}
-use Rattle.rules.specs.Rulings.{State, pendingOf, turn, lost, fateOf, tellLosersFrom, noted, answerOf, ruled}
-use Rattle.rules.specs.Rules.{reporting, checkCondition, check2, bitToReport, toldWithoutTas, toldByQerr, complete, clearing, manage, happen, nexusOf, ruleFor, ruling, step, answer}
+use Rattle.rules.specs.Bits.{noPending, top, senseFor, without, afterPowerOn, afterHardReset, afterUnitReset, afterNexusLoss, afterCleared}
+use Rattle.rules.specs.Rulings.{State, isClear, pendingOf, turn, lost, alsoByQerr, fateOf, tellLosersFrom, noted, answerOf, ruled}
+use Rattle.rules.specs.Rules.{tellsOthers, telling, checkCondition, check2, bitToReport, finish, complete, clearing, manage, happen, nexusOf, ruleFor, ruling, step}
 use Rattle.rules.specs.Well.{WellFormed, distinct}
-use Rattle.rules.specs.Attentions.{rank, ranks, isSet, highest, Attention, Unmoved, Gets, Reports, bitAfter, passesAca, reaches3, reportsBit, reportedBy, clearedBy, completes, endsOthers, byFunction, byHappening, caused, attention}
+use Rattle.rules.specs.Attentions.{rank, ranks, isSet, highest, Attention, Unmoved, Gets, Reports, bitAfter, passesAca, reportsBit, reportedBy, clearedBy, failsAtEntry, completes, endsOthers, byFunction, byHappening, caused, attention}
 use Rattle.rules.proofs.Fates.{isEnds, all-end}
 use Rattle.rules.proofs.Distinct.{same-parts}
-use Rattle.rules.proofs.Cases.{stop, check-cases, enter-cases, check2-none}
+use Rattle.rules.proofs.Cases.{stop, check-cases, failing-cases, check2-none}
 use Rattle.rules.proofs.WellKept.{Tested}
 use Rattle.rules.proofs.WellSays.{says-tested}
 use Rattle.rules.proofs.FieldErrors.{topIs, top-first, qerr-all-ends}
@@ -62,7 +62,7 @@ changed-bits (Reports LossBit) p = every-bit (ByRank (Reports LossBit) p) refl r
 changed-bits (Reports ClearedBit) p = every-bit (ByRank (Reports ClearedBit) p) refl refl refl refl refl
 
 -- the two ways to say the rank agree
-rank-place : (b : Bit) → getD ranks (rank b) PowerBit ≡ b
+pub rank-place : (b : Bit) → getD ranks (rank b) PowerBit ≡ b
 rank-place = every-bit (λ b. getD ranks (rank b) PowerBit ≡ b) refl refl refl refl refl
 
 -- By cause ---------------------------------------------------------------------------------------------------------------------------------
@@ -70,11 +70,14 @@ rank-place = every-bit (λ b. getD ranks (rank b) PowerBit ≡ b) refl refl refl
 -- Entry
 
 -- what is due to a nexus at a ruling: its bits change so, and what is reported is the answer
-record Due (s : State) (i : ℕ) (r : Ruling) (a : Attention) : Type 0 where
-  bits : pendingOf (ruled s r) i ≡ changed a (pendingOf s i)
-  told : (b : Bit) → a ≡ Reports b → answerOf r ≡ EndedAtEntry 0x02 (senseFor b)
+pub record Due (s : State) (i : ℕ) (r : Ruling) (a : Attention) : Type 0 where
+  pub bits : pendingOf (ruled s r) i ≡ changed a (pendingOf s i)
+  pub told : (b : Bit) → a ≡ Reports b → answerOf r ≡ EndedAtEntry 0x02 (senseFor b)
 
-none-reported : {P : Type 0} {b : Bit} → Unmoved ≡ Reports b → P
+none-given : {P : Type 0} {a b : Bit} → Gets a ≡ Reports b → P
+none-given e = absurd (let z : _≡_ {A = ℕ} 0 1 = cc in omega arith)
+
+pub none-reported : {P : Type 0} {b : Bit} → Unmoved ≡ Reports b → P
 none-reported e = absurd (let z : _≡_ {A = ℕ} 0 1 = cc in omega arith)
 
 unmoved-due : (s : State) (i : ℕ) (r : Ruling) → pendingOf (ruled s r) i ≡ pendingOf s i → Due s i r Unmoved
@@ -89,6 +92,24 @@ abbrev tells : Top → Attention
 tells NoBit = Unmoved
 tells (Highest b) = Reports b
 
+no-bit : {P : Type 0} {b : Bit} → NoBit ≡ Highest b → P
+no-bit e = absurd (let z : _≡_ {A = ℕ} 0 1 = cc in omega arith)
+
+is-bit : (o : Top) (b : Bit) → tells o ≡ Reports b → o ≡ Highest b
+is-bit NoBit b e = none-reported e
+is-bit (Highest x) b e = let z : x ≡ b = cc in ap (λ y. Highest y) z
+
+abbrev isBit : Top → Bool
+isBit NoBit = false
+isBit (Highest b) = true
+
+any-bit : (p : Pending) → any (isSet p) ranks ≡ isBit (top p)
+any-bit p = rw (top-first p) (go (first (isSet p) ranks) refl)
+  where
+    go : (o : Option Bit) → first (isSet p) ranks ≡ o → any (isSet p) ranks ≡ isBit (topIs o)
+    go none e = first-none (isSet p) ranks e
+    go (some b) e = first-any (isSet p) (isSet p) ranks b e (first-passes (isSet p) ranks b e)
+
 told-is : (exempt : Bool) (o : Option Bit) → cond (not exempt) (reportsBit o) Unmoved ≡ tells (cond exempt NoBit (topIs o))
 told-is true o = refl
 told-is false none = refl
@@ -98,59 +119,7 @@ passes : (a : Allegiance) (c : Entry) (aca : Bool) → check2 a c aca ≡ none �
 passes Clear c aca e = refl
 passes (Faulted f) c aca e = let k = check2-none f c aca e in rw (k .0, k .1, k .2)
 
-module _ (s : State) (c : Entry) (here : c .nexus < length (s .pending)) where
-  -- checks 1 and 2 let the command pass
-  past-aca :
-      any (same (c .nexus) (c .tag)) (s .tasks) ≡ false → check2 (s .header .aca) c (any acaTask (s .tasks)) ≡ none
-      → reportedBy s c ≡ tells (bitToReport c (pendingOf s (c .nexus)))
-  past-aca n1 n2 =
-      rw (n1, passes (s .header .aca) c (any acaTask (s .tasks)) n2, top-first (pendingOf s (c .nexus)))
-      (told-is (c .exempt) (highest (pendingOf s (c .nexus))))
-
-  own-due : Due s (c .nexus) (ruleFor s (Command c)) (reportedBy s c)
-  unfolding ruleFor
-  own-due =
-      check-cases (λ r. Due s (c .nexus) r (reportedBy s c)) (s .header) c (any (same (c .nexus) (c .tag)) (s .tasks)) (any acaTask (s .tasks))
-      (pendingOf s (c .nexus))
-      (stop (λ y. silent (rw y) refl) λ n1.
-      stop (λ f a e k. silent (rw (n1, a, e, k)) refl, λ f a e. silent (rw (n1, a, e)) refl) λ n2.
-      stop (λ b e. due-as (past-aca n1 n2 ∙ ap tells e) (reported b)) λ n3.
-      let quiet : reportedBy s c ≡ Unmoved = past-aca n1 n2 ∙ ap tells n3 in
-      stop (λ e. silent quiet refl) λ n4.
-      stop (λ e. silent quiet refl) λ n5.
-      silent quiet refl)
-    where
-      silent :
-          {r : Ruling} → reportedBy s c ≡ Unmoved → pendingOf (ruled s r) (c .nexus) ≡ pendingOf s (c .nexus)
-          → Due s (c .nexus) r (reportedBy s c)
-      silent e q = due-as e (unmoved-due s (c .nexus) _ q)
-
-      reported : (b : Bit) → Due s (c .nexus) (checkCondition (s .header) c (senseFor b) Nobody (Highest b)) (Reports b)
-      reported b =
-          record {
-            bits = getD-set-same (s .pending) (c .nexus) _ noPending here;
-            told = λ b′ e. let z : b ≡ b′ = cc in rw z;
-          }
-
-  other-due : (i : ℕ) → (i ≡ c .nexus → ⊥) → Due s i (ruleFor s (Command c)) Unmoved
-  unfolding ruleFor
-  other-due i ne =
-      enter-cases (λ r. Due s i r Unmoved) (s .header) c (any (same (c .nexus) (c .tag)) (s .tasks)) (any acaTask (s .tasks))
-      (pendingOf s (c .nexus))
-      (λ se w o. unmoved-due s i _ (other-bits _ o))
-      (λ st. unmoved-due s i _ refl)
-      (λ p. unmoved-due s i _ refl)
-    where
-      other-bits : (ls : List Task) (o : Top) → getD (noted (reporting (c .nexus) o) ls (s .pending)) i noPending ≡ pendingOf s i
-      other-bits ls NoBit = refl
-      other-bits ls (Highest b) = getD-set-other (s .pending) (c .nexus) i _ noPending ne
-
-  command-due : (i : ℕ) → Due s i (ruleFor s (Command c)) (caused s (Command c) i)
-  command-due i =
-      split (eqb i (c .nexus)) (λ k. let z : i ≡ c .nexus = eqb-true i (c .nexus) k in rw (k, z) own-due)
-      (λ k. rw k (other-due i (eqb-false i (c .nexus) k)))
-
--- Commands cleared by another initiator
+-- Who is told
 
 module _ (i n : ℕ) (ls : List Task) where
   told-losers :
@@ -165,20 +134,158 @@ module _ (i n : ℕ) (ls : List Task) where
       go false = refl
   told-losers j (suc k) (p ∷ ps) e l = told-losers (suc j) k ps (omega arith) (omega arith)
 
+  -- the bit reported to nexus n, if there is one, and bit 4 of another that lost a task, if others are told
+  abbrev toldTo : Top → Bool → Attention
+  toldTo o others = cond (eqb i n) (tells o) (cond (others && any (ofNexus i) ls) (Gets ClearedBit) Unmoved)
+
+  module _ (ps : List Pending) (low : i < length ps) where
+    losers-told : getD (tellLosersFrom 0 n ls ps) i noPending ≡ changed (toldTo NoBit true) (getD ps i noPending)
+    losers-told = told-losers 0 i ps (omega arith) low ∙ ap (λ a. changed a (getD ps i noPending)) (go (eqb i n))
+      where
+        go : (b : Bool) → cond (not b && any (ofNexus i) ls) (Gets ClearedBit) Unmoved ≡ cond b Unmoved (cond (any (ofNexus i) ls) (Gets ClearedBit) Unmoved)
+        go true = refl
+        go false = refl
+
+    bit-told : (b : Bit) → getD (set ps n (without b (getD ps n noPending))) i noPending ≡ changed (toldTo (Highest b) false) (getD ps i noPending)
+    bit-told b =
+        split (eqb i n) (λ k. let z : i ≡ n = eqb-true i n k in rw (k, ← z) (getD-set-same ps i _ noPending low))
+        (λ k. rw k (getD-set-other ps n i _ noPending (eqb-false i n k)))
+
+  told-bits :
+      (o : Top) (others : Bool) (ps : List Pending) → i < length ps
+      → getD (noted (telling n o others) ls ps) i noPending ≡ changed (toldTo o others) (getD ps i noPending)
+  told-bits NoBit false ps low = cases (λ a. getD ps i noPending ≡ changed a (getD ps i noPending)) (eqb i n) (λ k. refl) (λ k. refl)
+  told-bits NoBit true ps low = losers-told ps low
+  told-bits (Highest b) false ps low = bit-told ps low b
+  told-bits (Highest b) true ps low =
+      losers-told (set ps n (without b (getD ps n noPending))) (omega (arith, length-set ps n (without b (getD ps n noPending))))
+      ∙ ap (changed (toldTo NoBit true)) (bit-told ps low b)
+      ∙ go (eqb i n) (cond (any (ofNexus i) ls) (Gets ClearedBit) Unmoved) (getD ps i noPending)
+    where
+      go : (own : Bool) (a : Attention) (p : Pending) → changed (cond own Unmoved a) (changed (cond own (Reports b) Unmoved) p) ≡ changed (cond own (Reports b) a) p
+      go true a p = refl
+      go false a p = refl
+
 module _ (s : State) (i : ℕ) (here : i < length (s .pending)) where
   -- all tasks end by the sweep w, for nexus n
   cleared-after :
-      (n : ℕ) (w : Sweep) → ((t : Task) → isEnds (fateOf w t) ≡ true)
-      → getD (noted (toldWithoutTas (s .header .policy .tas) n) (lost (map (fateOf w) (s .tasks)) (s .tasks)) (s .pending)) i noPending
-      ≡ changed (clearedBy s n i) (pendingOf s i)
-  cleared-after n w all = rw (all-end (fateOf w) (s .tasks) all .1) (go (s .header .policy .tas))
+      (n : ℕ) (o : Top) (w : Sweep) → ((t : Task) → isEnds (fateOf w t) ≡ true)
+      → getD (noted (telling n o (not (s .header .policy .tas))) (lost (map (fateOf w) (s .tasks)) (s .tasks)) (s .pending)) i noPending
+      ≡ changed (cond (eqb i n) (tells o) (clearedBy s n i)) (pendingOf s i)
+  cleared-after n o w all =
+      rw (all-end (fateOf w) (s .tasks) all .1)
+      (told-bits i n (s .tasks) o (not (s .header .policy .tas)) (s .pending) here
+      ∙ ap (λ a. changed a (pendingOf s i)) (go (s .header .policy .tas) (eqb i n)))
     where
       go :
-          (tas : Bool)
-          → getD (noted (toldWithoutTas tas n) (s .tasks) (s .pending)) i noPending
-          ≡ changed (cond (not tas && not (eqb i n) && any (ofNexus i) (s .tasks)) (Gets ClearedBit) Unmoved) (pendingOf s i)
+          (tas b : Bool)
+          → cond b (tells o) (cond (not tas && any (ofNexus i) (s .tasks)) (Gets ClearedBit) Unmoved)
+          ≡ cond b (tells o) (cond (not tas && not b && any (ofNexus i) (s .tasks)) (Gets ClearedBit) Unmoved)
+      go tas true = refl
+      go true false = refl
+      go false false = refl
+
+  -- the causing nexus is not among those told
+  untold : (n : ℕ) (others : Bool) → cond (eqb i n) Unmoved (cond others (clearedBy s n i) Unmoved) ≡ cond others (clearedBy s n i) Unmoved
+  untold n = go (eqb i n) (s .header .policy .tas)
+    where
+      go :
+          (own tas others : Bool)
+          → cond own Unmoved (cond others (cond (not tas && not own && any (ofNexus i) (s .tasks)) (Gets ClearedBit) Unmoved) Unmoved)
+          ≡ cond others (cond (not tas && not own && any (ofNexus i) (s .tasks)) (Gets ClearedBit) Unmoved) Unmoved
+      go false tas others = refl
+      go true tas false = refl
+      go true true true = refl
+      go true false true = refl
+
+  -- QERR, by whether it is applied
+  by-qerr :
+      (n : ℕ) (o : Top) (w : Sweep) (q : Qerr) → (q ≡ EndAll → (t : Task) → isEnds (fateOf w t) ≡ true)
+      → getD (noted (telling n o (tellsOthers q (s .header .policy .tas))) (lost (map (fateOf w) (s .tasks)) (s .tasks)) (s .pending)) i noPending
+      ≡ changed (cond (eqb i n) (tells o) (cond (endsOthers q) (clearedBy s n i) Unmoved)) (pendingOf s i)
+  by-qerr n o w EndNone all = told-bits i n (lost (map (fateOf w) (s .tasks)) (s .tasks)) o false (s .pending) here
+  by-qerr n o w EndAll all = cleared-after n o w (all refl)
+  by-qerr n o w EndNexus all = told-bits i n (lost (map (fateOf w) (s .tasks)) (s .tasks)) o false (s .pending) here
+
+  -- a CHECK CONDITION at entry: the nexus of the command, another one
+  abbrev failedTo : Entry → Top → Attention
+  failedTo c o =
+      cond (eqb i (c .nexus)) (tells o)
+      (cond (isClear (s .header .aca) && endsOthers (s .header .policy .qerr)) (clearedBy s (c .nexus) i) Unmoved)
+
+  failed-bits :
+      (c : Entry) (se : Sense) (w : Sweep) (o : Top)
+      → pendingOf (ruled s (checkCondition (s .header) c se w o)) i ≡ changed (failedTo c o) (pendingOf s i)
+  failed-bits c se w o =
+      failing-cases (λ d. pendingOf (ruled s (Changes (EndedAtEntry 0x02 se) d)) i ≡ changed (failedTo c o) (pendingOf s i)) (s .header) c w o
+      (λ a. rw a (by-qerr (c .nexus) o (alsoByQerr (s .header .policy .qerr) (s .header .policy) (c .nexus) w) (s .header .policy .qerr) (λ q t. rw q)))
+      (λ f a. rw a (told-bits i (c .nexus) (lost (map (fateOf w) (s .tasks)) (s .tasks)) o false (s .pending) here))
+
+-- A command
+
+module _ (s : State) (c : Entry) where
+  -- checks 1 and 2 let the command pass
+  past-aca :
+      any (same (c .nexus) (c .tag)) (s .tasks) ≡ false → check2 (s .header .aca) c (any acaTask (s .tasks)) ≡ none
+      → reportedBy s c ≡ tells (bitToReport c (pendingOf s (c .nexus)))
+  past-aca n1 n2 =
+      rw (n1, passes (s .header .aca) c (any acaTask (s .tasks)) n2, top-first (pendingOf s (c .nexus)))
+      (told-is (c .exempt) (highest (pendingOf s (c .nexus))))
+
+  pub bit-waits : not (c .exempt) && any (isSet (pendingOf s (c .nexus))) ranks ≡ isBit (bitToReport c (pendingOf s (c .nexus)))
+  bit-waits = go (c .exempt)
+    where
+      go : (x : Bool) → not x && any (isSet (pendingOf s (c .nexus))) ranks ≡ isBit (cond x NoBit (top (pendingOf s (c .nexus))))
       go true = refl
-      go false = told-losers i n (s .tasks) 0 i (s .pending) (omega arith) here
+      go false = any-bit (pendingOf s (c .nexus))
+
+  -- another nexus may be given a bit, and has none reported
+  pub others-unreported : (i : ℕ) (b : Bit) → eqb i (c .nexus) ≡ false → caused s (Command c) i ≡ Reports b → ⊥
+  others-unreported i b k =
+      rw k (go (failsAtEntry s c && endsOthers (s .header .policy .qerr)) (not (s .header .policy .tas) && true && any (ofNexus i) (s .tasks)))
+    where
+      go : (fails lost : Bool) → cond fails (cond lost (Gets ClearedBit) Unmoved) Unmoved ≡ Reports b → ⊥
+      go true true e = none-given e
+      go true false e = none-reported e
+      go false lost e = none-reported e
+
+  module _ (i : ℕ) (low : i < length (s .pending)) where
+    -- the command ends with 02h
+    failed-due :
+        (se : Sense) (w : Sweep) (o : Top) → reportedBy s c ≡ tells o → failsAtEntry s c ≡ isClear (s .header .aca)
+        → ((b : Bit) → o ≡ Highest b → se ≡ senseFor b)
+        → Due s i (checkCondition (s .header) c se w o) (caused s (Command c) i)
+    failed-due se w o r f sensed =
+        record {
+          bits = rw (r, f) (failed-bits s i low c se w o);
+          told =
+              λ b e.
+              ap (EndedAtEntry 0x02)
+              (sensed b
+              (split (eqb i (c .nexus)) (λ k. is-bit o b (rw (k, r) at e)) (λ k. absurd (others-unreported i b k e))));
+        }
+
+    -- any other end, or none
+    still-due : (r : Ruling) → reportedBy s c ≡ Unmoved → failsAtEntry s c ≡ false → pendingOf (ruled s r) i ≡ pendingOf s i
+        → Due s i r (caused s (Command c) i)
+    still-due r u f e =
+        due-as (rw (u, f) (cases (λ a. a ≡ Unmoved) (eqb i (c .nexus)) (λ k. refl) (λ k. refl))) (unmoved-due s i r e)
+
+    pub command-due : Due s i (ruleFor s (Command c)) (caused s (Command c) i)
+    unfolding ruleFor
+    command-due =
+        check-cases (λ r. Due s i r (caused s (Command c) i)) (s .header) c (any (same (c .nexus) (c .tag)) (s .tasks)) (any acaTask (s .tasks))
+        (pendingOf s (c .nexus))
+        (stop (λ y. failed-due _ _ NoBit (rw y) (rw y (and-on (isClear (s .header .aca)))) (λ b e. no-bit e)) λ n1.
+        stop (λ f a e k. still-due _ (rw (n1, a, e, k)) (rw a) refl, λ f a e. still-due _ (rw (n1, a, e)) (rw a) refl) λ n2.
+        stop (λ b e.
+        failed-due _ _ (Highest b) (past-aca n1 n2 ∙ ap tells e) (rw (n1, bit-waits, e) (and-on (isClear (s .header .aca))))
+        (λ b′ e′. let z : b ≡ b′ = cc in ap senseFor z)) λ n3.
+        let quiet : reportedBy s c ≡ Unmoved = past-aca n1 n2 ∙ ap tells n3 in
+        stop (λ e. failed-due _ _ NoBit quiet (rw (n1, bit-waits, n3, e) (and-on (isClear (s .header .aca)))) (λ b e′. no-bit e′)) λ n4.
+        let lets : failsAtEntry s c ≡ false = rw (n1, bit-waits, n3, n4) (and-off (isClear (s .header .aca))) in
+        stop (λ e. still-due _ quiet lets refl) λ n5.
+        still-due _ quiet lets refl)
 
 abbrev enabledOf : Option Task → Bool
 enabledOf none = false
@@ -214,7 +321,7 @@ module _ (s : State) (i : ℕ) (w : Tested s) (low : i < nexuses) where
   unfolding manage
   manage-bits n (AbortTask g) = refl
   manage-bits n AbortTaskSet = refl
-  manage-bits n ClearTaskSet = cleared-after s i here n (ClearedBy n (s .header .policy)) (λ t. refl)
+  manage-bits n ClearTaskSet = cleared-after s i here n NoBit (ClearedBy n (s .header .policy)) (λ t. refl) ∙ ap (λ a. changed a (pendingOf s i)) (untold s i here n true)
   manage-bits n ClearAca = go (s .header .aca)
     where
       go : (a : Allegiance) → pendingOf (ruled s (clearing (s .header) n a)) i ≡ pendingOf s i
@@ -246,20 +353,14 @@ module _ (s : State) (i : ℕ) (w : Tested s) (low : i < nexuses) where
       go (some t) = cases (λ r. pendingOf (ruled s r) i ≡ pendingOf s i) (isEnabled (t .state)) (λ e. refl) (λ e. refl)
   complete-bits n g CheckCondition named = rw (enabled-found n g (s .tasks) (w .apart)) (go (first (same n g) (s .tasks)) refl)
     where
-      by-qerr :
-          (t : Task) (q : Qerr) → s .header .policy .qerr ≡ q
-          → getD
-          (noted (toldByQerr q (s .header .policy .tas) (t .nexus))
-          (lost (map (fateOf (FailedTask (t .nexus) (t .tag) (s .header .policy))) (s .tasks)) (s .tasks))
-          (s .pending))
-          i
-          noPending
-          ≡ changed (cond (endsOthers q) (clearedBy s (t .nexus) i) Unmoved) (pendingOf s i)
-      by-qerr t EndNone e = refl
-      by-qerr t EndAll e =
-          cleared-after s i here (t .nexus) (FailedTask (t .nexus) (t .tag) (s .header .policy))
-          (λ u. qerr-all-ends (t .nexus) (t .tag) (s .header .policy) u e)
-      by-qerr t EndNexus e = refl
+      failed :
+          (t : Task)
+          → pendingOf (ruled s (Changes Done (finish (s .header) CheckCondition t named))) i
+          ≡ changed (cond (endsOthers (s .header .policy .qerr)) (clearedBy s (t .nexus) i) Unmoved) (pendingOf s i)
+      failed t =
+          by-qerr s i here (t .nexus) NoBit (FailedTask (t .nexus) (t .tag) (s .header .policy)) (s .header .policy .qerr)
+          (λ q u. qerr-all-ends (t .nexus) (t .tag) (s .header .policy) u q)
+          ∙ ap (λ a. changed a (pendingOf s i)) (untold s i here (t .nexus) (endsOthers (s .header .policy .qerr)))
 
       go :
           (o : Option Task) → first (same n g) (s .tasks) ≡ o
@@ -268,7 +369,7 @@ module _ (s : State) (i : ℕ) (w : Tested s) (low : i < nexuses) where
       go none e = refl
       go (some t) e =
           split (isEnabled (t .state))
-          (λ k. rw (k, ← same-parts n g t (first-passes (same n g) (s .tasks) t e) .0) (by-qerr t (s .header .policy .qerr) refl))
+          (λ k. rw (k, ← same-parts n g t (first-passes (same n g) (s .tasks) t e) .0) (failed t))
           (λ k. rw k)
 
   pending-after : (e : Event) → pendingOf (step s e) i ≡ changed (attention s e i) (pendingOf s i)
@@ -276,7 +377,7 @@ module _ (s : State) (i : ℕ) (w : Tested s) (low : i < nexuses) where
   pending-after e = split (ltb (nexusOf e) nexuses) (λ k. rw k (go e (ltb-true (nexusOf e) nexuses k))) (λ k. rw k)
     where
       go : (e : Event) → nexusOf e < nexuses → pendingOf (ruled s (ruleFor s e)) i ≡ changed (caused s e i) (pendingOf s i)
-      go (Command c) l = command-due s c (omega (arith, w .eight)) i .bits
+      go (Command c) l = command-due s c i here .bits
       go (Completion n g f) l = complete-bits n g f (isNamed n g (turn s))
       go (Management n f) l = manage-bits n f
       go (Condition c) l = happen-bits c l
@@ -290,17 +391,7 @@ pub bits-after :
 bits-after s e i b w l =
     rw (pending-after s i (says-tested s w) l e) (changed-bits (attention s e i) (pendingOf s i) b)
 
--- RULES 5.8: the bit that a command is told of is the answer's
-pub reported-is-answered :
-    (s : State) (c : Entry) (i : ℕ) (b : Bit) → WellFormed s → attention s (Command c) i ≡ Reports b
-    → answer s (Command c) ≡ EndedAtEntry 0x02 (senseFor b)
-unfolding answer ruling attention
-reported-is-answered s c i b w e =
-    split (ltb (c .nexus) nexuses)
-    (λ k. rw k (command-due s c (omega (arith, ltb-true (c .nexus) nexuses k, w .eight)) i .told b (rw k at e)))
-    (λ k. none-reported (rw k at e))
-
--- the causing nexus is not told of its own aborts: at its CLEAR TASK SET and at its CHECK CONDITION each of its bits is as before
+-- the causing nexus is not told of its own aborts: at its CLEAR TASK SET and at the CHECK CONDITION of its task each of its bits is as before
 pub causing-nexus-never-told :
     (s : State) (n g : ℕ) (b : Bit) → WellFormed s → n < nexuses
     → (isSet (pendingOf (step s (Management n ClearTaskSet)) n) b ≡ isSet (pendingOf s n) b)
@@ -317,46 +408,3 @@ causing-nexus-never-told s n g b w l = (
     failed : caused s (Completion n g CheckCondition) n ≡ Unmoved
     failed =
         cases (λ a. a ≡ Unmoved) (completes s n g && endsOthers (s .header .policy .qerr)) (λ e. cleared) (λ e. refl)
-
--- what a command can bring
-abbrev Brought : State → Entry → ℕ → Attention → Type 0
-Brought s c i Unmoved = Unit {0}
-Brought s c i (Gets b) = ⊥
-Brought s c i (Reports b) = (i ≡ c .nexus) × (highest (pendingOf s i) ≡ some b)
-
-brought : (s : State) (c : Entry) (i : ℕ) → Brought s c i (attention s (Command c) i)
-unfolding attention
-brought s c i =
-    cases (Brought s c i) (ltb (c .nexus) nexuses)
-    (λ k.
-    cases (Brought s c i) (eqb i (c .nexus))
-    (λ q.
-    let z : i ≡ c .nexus = eqb-true i (c .nexus) q in
-    cases (Brought s c i) (reaches3 s c && not (c .exempt))
-    (λ r. go (highest (pendingOf s (c .nexus))) z (ap (λ n. highest (pendingOf s n)) z))
-    (λ r. tt))
-    (λ q. tt))
-    (λ k. tt)
-  where
-    go : (o : Option Bit) → i ≡ c .nexus → highest (pendingOf s i) ≡ o → Brought s c i (reportsBit o)
-    go none q e = tt
-    go (some b) q e = (q, e)
-
--- RULES 5.8 and 5.9: a bit that a command changes is the highest of the command's own nexus, and the answer tells it; no other bit of any nexus changes
-pub only-one-reported :
-    (s : State) (c : Entry) (i : ℕ) (b : Bit) → WellFormed s → i < nexuses
-    → (isSet (pendingOf (step s (Command c)) i) b ≡ isSet (pendingOf s i) b → ⊥)
-    → (i ≡ c .nexus) × (highest (pendingOf s i) ≡ some b) × (answer s (Command c) ≡ EndedAtEntry 0x02 (senseFor b))
-only-one-reported s c i b w l moved = go (attention s (Command c) i) refl (brought s c i)
-  where
-    go :
-        (a : Attention) → attention s (Command c) i ≡ a → Brought s c i a
-        → (i ≡ c .nexus) × (highest (pendingOf s i) ≡ some b) × (answer s (Command c) ≡ EndedAtEntry 0x02 (senseFor b))
-    go Unmoved e t = absurd (moved (rw e at (bits-after s (Command c) i b w l)))
-    go (Gets x) e t = absurd t
-    go (Reports x) e t =
-        split (eqb (rank b) (rank x))
-        (λ k.
-        let z : x ≡ b = sym (rank-place x) ∙ ap (λ n. getD ranks n PowerBit) (sym (eqb-true (rank b) (rank x) k)) ∙ rank-place b in
-        (t .0, t .1 ∙ ap (λ y. some y) z, rw z at (reported-is-answered s c i x w e)))
-        (λ k. absurd (moved (rw (e, k) at (bits-after s (Command c) i b w l))))

@@ -8,11 +8,12 @@ use lib.Dec.{eqb, ltb, leb}
 use borrow.Author.Tests.{ltb-true, lt-ltb, le-ltb, not-true, not-false}
 use Rattle.laws.specs.Lists.{any, first}
 use Rattle.laws.proofs.Bools.{and-true, cases, none-some, some-is}
-use Rattle.rules.specs.Types.{Task, Entry, Finish, Function, Happening, Event, Command, Completion, Management, Condition, Allegiance, Clear, Faulted, Header, Pending, Bit, Top, NoBit, Highest, Sweep, Nobody, NexusTasks, Sense, Done, NexusAboveSeven, NoSuchTask, NotEnabled, Ruling, Keeps, Changes}
+use Rattle.rules.specs.Types.{Task, Entry, Finish, Function, Happening, Event, Command, Completion, Management, Condition, Allegiance, Clear, Faulted, Header, Pending, Bit, Top, NoBit, Highest, Sweep, Nobody, NexusTasks, NoTask, Change, Sense, Done, NexusAboveSeven, NoSuchTask, NotEnabled, Ruling, Keeps, Changes}
+use Rattle.values.specs.Headers.{withAca}
 use Rattle.rules.specs.Tasks.{places, nexuses, isEnabled, acaTask, same, isNamed}
 use Rattle.rules.specs.Bits.{senseFor}
-use Rattle.rules.specs.Rulings.{State, pendingOf, turn}
-use Rattle.rules.specs.Rules.{sense, endedWith, checkCondition, onlyIf, asksAca, check2, bitToReport, check3, badAttribute, accepting, firstThatRules, checks, enter, finish, complete, manage, happen, nexusOf, ruleFor, ruling}
+use Rattle.rules.specs.Rulings.{State, isClear, pendingOf, turn, alsoByQerr}
+use Rattle.rules.specs.Rules.{sense, endedWith, tellsOthers, telling, acaByNaca, failing, checkCondition, onlyIf, asksAca, check2, bitToReport, check3, badAttribute, accepting, firstThatRules, checks, enter, finish, complete, manage, happen, nexusOf, ruleFor, ruling}
 
 -- The checks of a command -----------------------------------------------------------------------------------------------------------------
 
@@ -116,6 +117,46 @@ enter-cases P h c here aca p fails keeps accepts =
     stop (λ e. fails _ _ NoBit) λ n4.
     stop (λ e. keeps _) λ n5.
     accepts (record { not-overlapped = n1; aca-lets-it = n2; no-attention = n3; attribute-good = n4; room = n5 }))
+
+-- what a CHECK CONDITION at entry does, without an ACA and in one
+pub failing-cases :
+    (P : Change → Type 0) (h : Header) (c : Entry) (w : Sweep) (o : Top) → (h .aca ≡ Clear → P (failing Clear h c w o))
+    → ((f : ℕ) → h .aca ≡ Faulted f → P (failing (Faulted f) h c w o)) → P (failing (h .aca) h c w o)
+failing-cases P h c w o free held = go (h .aca) refl
+  where
+    go : (a : Allegiance) → h .aca ≡ a → P (failing a h c w o)
+    go Clear e = free e
+    go (Faulted f) e = held f e
+
+-- the same without cases, by whether QERR and NACA apply
+pub failing-is :
+    (h : Header) (c : Entry) (w : Sweep) (o : Top)
+    → failing (h .aca) h c w o
+    ≡ record {
+      sweep = cond (isClear (h .aca)) (alsoByQerr (h .policy .qerr) (h .policy) (c .nexus) w) w;
+      joins = NoTask;
+      header = withAca h (acaByNaca (isClear (h .aca) && c .naca) (c .nexus) (h .aca));
+      notice = telling (c .nexus) o (isClear (h .aca) && tellsOthers (h .policy .qerr) (h .policy .tas));
+    }
+failing-is h c w o = go (h .aca) refl
+  where
+    go :
+        (a : Allegiance) → h .aca ≡ a
+        → failing a h c w o
+        ≡ record {
+          sweep = cond (isClear a) (alsoByQerr (h .policy .qerr) (h .policy) (c .nexus) w) w;
+          joins = NoTask;
+          header = withAca h (acaByNaca (isClear a && c .naca) (c .nexus) a);
+          notice = telling (c .nexus) o (isClear a && tellsOthers (h .policy .qerr) (h .policy .tas));
+        }
+    go Clear e = refl
+    go (Faulted f) e = rw (← e) refl
+
+pub failing-joins : (h : Header) (c : Entry) (w : Sweep) (o : Top) → (failing (h .aca) h c w o) .joins ≡ NoTask
+failing-joins h c w o = failing-cases (λ d. d .joins ≡ NoTask) h c w o (λ e. refl) (λ f e. refl)
+
+pub failing-run : (h : Header) (c : Entry) (w : Sweep) (o : Top) → (failing (h .aca) h c w o) .header .run ≡ h .run
+failing-run h c w o = failing-cases (λ d. d .header .run ≡ h .run) h c w o (λ e. refl) (λ f e. refl)
 
 -- a command that passes check 2 in an ACA is of the faulted nexus and asks for attribute ACA, and there is no ACA task
 pub check2-none :

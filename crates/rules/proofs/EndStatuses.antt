@@ -8,11 +8,11 @@ use lib.Dec.{eqb, ltb}
 use lib.ListN.{length}
 use Rattle.laws.specs.Lists.{one-if, count}
 use Rattle.laws.proofs.Bools.{cases}
-use Rattle.rules.specs.Types.{Task, Policy, Qerr, EndNone, EndAll, EndNexus, Finish, Good, CheckCondition, Function, AbortTask, AbortTaskSet, ClearTaskSet, ClearAca, LogicalUnitReset, Unknown, Happening, PowerOn, HardReset, NexusLoss, Event, Allegiance, Clear, Faulted, Done, Fate, Stays, Ends, Ended, Sweep, Nobody, OneTask, NexusTasks, AcaTask, AllTasks, ClearedBy, FailedTask, Ruling, Keeps, Changes}
+use Rattle.rules.specs.Types.{Task, Entry, Top, NoBit, Highest, Policy, Qerr, EndNone, EndAll, EndNexus, Finish, Good, CheckCondition, Function, AbortTask, AbortTaskSet, ClearTaskSet, ClearAca, LogicalUnitReset, Unknown, Happening, PowerOn, HardReset, NexusLoss, Event, Allegiance, Clear, Faulted, Done, Fate, Stays, Ends, Ended, Sweep, Nobody, OneTask, NexusTasks, AcaTask, AllTasks, ClearedBy, FailedTask, Ruling, Keeps, Changes}
 use Rattle.rules.specs.Tasks.{acaTask, ofNexus, same}
-use Rattle.rules.specs.Rulings.{State, endIf, abortedBy, fateByQerr, fateOf, endedFrom, reportOf}
-use Rattle.rules.specs.Rules.{finish, clearing, manage, happen, ruling, report}
-use Rattle.rules.proofs.Cases.{stop, check-cases, completion-cases, other-cases}
+use Rattle.rules.specs.Rulings.{State, endIf, abortedBy, alsoByQerr, fateByQerr, orElse, fateOf, endedFrom, reportOf}
+use Rattle.rules.specs.Rules.{failing, finish, clearing, manage, happen, ruling, report}
+use Rattle.rules.proofs.Cases.{stop, check-cases, failing-cases, completion-cases, other-cases}
 use Rattle.rules.proofs.Ruled.{report-ruled}
 
 abbrev pub isByte : ℕ → Bool
@@ -44,6 +44,11 @@ byte-qerr EndNone p n t = refl
 byte-qerr EndAll p n t = byte-aborted p n t
 byte-qerr EndNexus p n t = byte-if (ofNexus n t) 0xFF refl
 
+byte-sweep : (q : Qerr) (p : Policy) (n : ℕ) (w : Sweep) → byteSweep w ≡ true → byteSweep (alsoByQerr q p n w) ≡ true
+byte-sweep EndNone p n w e = e
+byte-sweep EndAll p n w e = refl
+byte-sweep EndNexus p n w e = refl
+
 byte-fate : (w : Sweep) (t : Task) → byteSweep w ≡ true → byteFate (fateOf w t) ≡ true
 byte-fate Nobody t e = refl
 byte-fate (OneTask n g st) t e = byte-if (same n g t) st e
@@ -51,7 +56,11 @@ byte-fate (NexusTasks n) t e = byte-if (ofNexus n t) 0xFF refl
 byte-fate AcaTask t e = byte-if (acaTask t) 0xFF refl
 byte-fate AllTasks t e = refl
 byte-fate (ClearedBy n p) t e = byte-aborted p n t
-byte-fate (FailedTask n g p) t e = cases (λ (f : Fate). byteFate f ≡ true) (same n g t) (λ k. refl) (λ k. byte-qerr (p .qerr) p n t)
+byte-fate (FailedTask n g p) t e = go (same n g t)
+  where
+    go : (b : Bool) → byteFate (orElse (endIf b 0x02) (fateByQerr (p .qerr) p n t)) ≡ true
+    go true = refl
+    go false = byte-qerr (p .qerr) p n t
 
 abbrev byteRuling : Ruling → Bool
 byteRuling (Keeps a) = true
@@ -63,10 +72,21 @@ byte-ruling s =
     other-cases (λ e r. byteRuling r ≡ true) s (λ e. refl)
     (λ n g f. completion-cases (λ r. byteRuling r ≡ true) s n g f refl refl refl (λ t l h k. finishes f t _))
     (λ c l. check-cases (λ r. byteRuling r ≡ true) (s .header) c _ _ _
-    (stop (λ e. refl) λ n1. stop (λ f a e k. refl, λ f a e. refl) λ n2. stop (λ b e. refl) λ n3. stop (λ e. refl) λ n4. stop (λ e. refl) λ n5. refl))
+    (stop (λ e. fails c _ NoBit refl) λ n1.
+    stop (λ f a e k. refl, λ f a e. refl) λ n2.
+    stop (λ b e. fails c _ (Highest b) refl) λ n3.
+    stop (λ e. fails c _ NoBit refl) λ n4.
+    stop (λ e. refl) λ n5.
+    refl))
     manages
     happens
   where
+    fails : (c : Entry) (w : Sweep) (o : Top) → byteSweep w ≡ true → byteSweep ((failing (s .header .aca) (s .header) c w o) .sweep) ≡ true
+    fails c w o e =
+        failing-cases (λ d. byteSweep (d .sweep) ≡ true) (s .header) c w o
+        (λ a. byte-sweep (s .header .policy .qerr) (s .header .policy) (c .nexus) w e)
+        (λ f a. e)
+
     finishes : (f : Finish) (t : Task) (b : Bool) → byteRuling (Changes Done (finish (s .header) f t b)) ≡ true
     finishes Good t b = refl
     finishes CheckCondition t b = refl

@@ -14,7 +14,7 @@ use Rattle.rules.specs.Rules.{finish, clearing, manage, happen, ruling, 
 use Rattle.rules.specs.Well.{Stands}
 use Rattle.rules.proofs.Fates.{map-lost, report-names}
 use Rattle.rules.proofs.Distinct.{blockedTask}
-use Rattle.rules.proofs.Cases.{enter-cases, completion-cases, other-cases}
+use Rattle.rules.proofs.Cases.{enter-cases, failing-joins, completion-cases, other-cases}
 
 -- The report -------------------------------------------------------------------------------------------------------------------------------
 
@@ -139,7 +139,7 @@ JoinsInPeace s r = (joinsOf r ≡ []) ⊎ ((ruled s r) .header .aca ≡ s .heade
 joins-in-peace : (s : State) (e : Event) → JoinsInPeace s (ruling s e)
 joins-in-peace s e =
     other-cases (λ e. JoinsInPeace s) s (λ e. inl refl) (λ n g f. inl (only-commands-join s (Completion n g f) refl))
-    (λ c l. enter-cases (JoinsInPeace s) (s .header) c _ _ _ (λ se w o. inl refl) (λ st. inl refl) (λ p. inr refl))
+    (λ c l. enter-cases (JoinsInPeace s) (s .header) c _ _ _ (λ se w o. inl (ap newcomers (failing-joins (s .header) c w o))) (λ st. inl refl) (λ p. inr refl))
     (λ n f. inl (manage-joins (s .header) n f))
     (λ c. inl (happen-joins (s .header) c))
     e

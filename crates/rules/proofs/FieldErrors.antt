@@ -14,7 +14,7 @@ use Rattle.rules.specs.Types.{Attribute, Simple, HeadOfQueue, Ordered, A
 use Rattle.values.specs.Headers.{lasting, lastingWith, freshHeader, runAfter}
 use Rattle.rules.specs.Tasks.{nexuses, isPlain, same, withState, eligible, enabledIf, settleFrom, restate}
 use Rattle.rules.specs.Bits.{noPending, top, afterPowerOn}
-use Rattle.rules.specs.Rulings.{State, fresh, kept, fateOf, tellLosersFrom, ruled}
+use Rattle.rules.specs.Rulings.{State, fresh, endIf, kept, abortedBy, orElse, fateOf, tellLosersFrom, ruled}
 use Rattle.rules.specs.Rules.{finish, manage, happen, ruleFor, ruling, step}
 use Rattle.rules.specs.Well.{WellFormed}
 use Rattle.rules.specs.Attentions.{ranks, isSet}
@@ -85,7 +85,11 @@ aborted-is-gone s n g l =
     (ended-gone (same n g) 0xFF (s .tasks))
 
 pub qerr-all-ends : (n g : ℕ) (p : Policy) (t : Task) → p .qerr ≡ EndAll → isEnds (fateOf (FailedTask n g p) t) ≡ true
-qerr-all-ends n g p t e = rw e (cases (λ f. isEnds f ≡ true) (same n g t) (λ s. refl) (λ s. refl))
+qerr-all-ends n g p t e = rw e (go (same n g t))
+  where
+    go : (b : Bool) → isEnds (orElse (endIf b 0x02) (abortedBy p n t)) ≡ true
+    go true = refl
+    go false = refl
 
 -- RULES 4.5, 01b: every other task, of whichever nexus
 pub qerr-all-empties : (n g : ℕ) (p : Policy) (ts : List Task) → p .qerr ≡ EndAll → kept (map (fateOf (FailedTask n g p)) ts) ts ≡ []

@@ -11,6 +11,8 @@ pub mod TurnRule
 pub mod Order
 pub mod FieldErrors
 pub mod Attentions
+pub mod CommandBits
+pub mod AtEntry
 pub mod CommandEntries
 pub mod Ends
 pub mod Refusals

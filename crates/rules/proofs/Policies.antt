@@ -5,10 +5,10 @@ use mathlib.Core.Path.{_≡_, refl}
 use lib.Dec.{eqb}
 use Rattle.laws.proofs.Bools.{cases}
 use Rattle.values.specs.Headers.{lasting}
-use Rattle.rules.specs.Types.{Task, Finish, Good, CheckCondition, Function, AbortTask, AbortTaskSet, ClearTaskSet, ClearAca, LogicalUnitReset, Unknown, Happening, PowerOn, HardReset, NexusLoss, Event, Allegiance, Clear, Faulted, Changes, Done, Ruling}
+use Rattle.rules.specs.Types.{Task, Entry, Finish, Good, CheckCondition, Function, AbortTask, AbortTaskSet, ClearTaskSet, ClearAca, LogicalUnitReset, Unknown, Happening, PowerOn, HardReset, NexusLoss, Event, Allegiance, Clear, Faulted, Top, Sweep, Changes, Done, Ruling}
 use Rattle.rules.specs.Rulings.{State, ruled}
-use Rattle.rules.specs.Rules.{finish, clearing, manage, happen, ruling}
-use Rattle.rules.proofs.Cases.{enter-cases, completion-cases, other-cases}
+use Rattle.rules.specs.Rules.{failing, finish, clearing, manage, happen, ruling}
+use Rattle.rules.proofs.Cases.{enter-cases, failing-cases, completion-cases, other-cases}
 
 module _ (s : State) where
   abbrev survives : Ruling → Type 0
@@ -17,6 +17,9 @@ module _ (s : State) where
   by-finish : (f : Finish) (t : Task) (named : Bool) → survives (Changes Done (finish (s .header) f t named))
   by-finish Good t named = refl
   by-finish CheckCondition t named = refl
+
+  by-failing : (c : Entry) (w : Sweep) (o : Top) → survives (Changes Done (failing (s .header .aca) (s .header) c w o))
+  by-failing c w o = failing-cases (λ d. survives (Changes Done d)) (s .header) c w o (λ a. refl) (λ f a. refl)
 
   by-clearing : (n : ℕ) (a : Allegiance) → survives (clearing (s .header) n a)
   by-clearing n Clear = refl
@@ -41,7 +44,7 @@ module _ (s : State) where
   what-lasts e =
       other-cases (λ v r. survives r) s (λ v. refl)
       (λ n g f. completion-cases survives s n g f refl refl refl (λ t l h k. by-finish f t _))
-      (λ c l. enter-cases survives (s .header) c _ _ _ (λ se w o. refl) (λ st. refl) (λ p. refl))
+      (λ c l. enter-cases survives (s .header) c _ _ _ (λ se w o. by-failing c w o) (λ st. refl) (λ p. refl))
       by-function
       by-condition
       e

@@ -1,13 +1,13 @@
 -- A ruling by its answer, as laws for whoever argues by cases and need not know the rule.
 use Prim.Native.Nat.{ℕ}
-use mathlib.Core.Path.{_≡_, refl}
+use mathlib.Core.Path.{_≡_}
 use lib.Dec.{eqb, ltb}
 use Rattle.laws.proofs.Bools.{cases}
 use Rattle.rules.specs.Types.{Entry, Function, AbortTask, AbortTaskSet, ClearTaskSet, ClearAca, LogicalUnitReset, Unknown, Happening, PowerOn, HardReset, NexusLoss, Event, Command, Allegiance, Clear, Faulted, NoTask, Change, Sense, Answer, Done, NexusAboveSeven, NoSuchTask, NotEnabled, EndedAtEntry, Rejected, Ruling, Keeps, Changes}
 use Rattle.rules.specs.Tasks.{nexuses}
 use Rattle.rules.specs.Rulings.{State}
 use Rattle.rules.specs.Rules.{accepting, clearing, manage, happen, ruleFor, ruling}
-use Rattle.rules.proofs.Cases.{enter-cases, completion-cases, other-cases}
+use Rattle.rules.proofs.Cases.{enter-cases, failing-joins, completion-cases, other-cases}
 
 -- a change is answered Done or at entry
 pub ruling-cases :
@@ -49,5 +49,5 @@ pub command-cases :
 unfolding ruling ruleFor
 command-cases P s c high keeps ends accepts =
     cases P (ltb (c .nexus) nexuses)
-    (λ l. enter-cases P (s .header) c _ _ _ (λ se w o. ends _ _ _ refl) (λ st. keeps _ _) (λ p. accepts))
+    (λ l. enter-cases P (s .header) c _ _ _ (λ se w o. ends _ _ _ (failing-joins (s .header) c w o)) (λ st. keeps _ _) (λ p. accepts))
     (λ l. high)

@@ -6,24 +6,24 @@ use mathlib.Core.List.{List, [], _∷_, _++_, map, append-nil}
 use mathlib.Core.Option.{none, some}
 use native.Mathlib.Omega.{arith}
 use lib.Dec.{eqb, leb}
-use lib.ListN.{length, length-append, length-map, length-set}
+use lib.ListN.{length, getD, set, length-append, length-map, length-set}
 use borrow.Author.Tests.{lt-ltb, eqb-true, not-true, leb-true, leb-false, lt-leb}
 use Rattle.laws.specs.Lists.{any, first}
 use Rattle.laws.proofs.Bools.{and-true, not-both, cases}
 use Rattle.laws.proofs.Lists.{any-append, any-less, any-never, first-passes}
-use Rattle.rules.specs.Types.{Attribute, Simple, HeadOfQueue, Ordered, Aca, Enabled, Task, Asked, Known, NoneOfFour, Entry, Finish, Good, CheckCondition, Function, AbortTask, AbortTaskSet, ClearTaskSet, ClearAca, LogicalUnitReset, Unknown, Happening, PowerOn, HardReset, NexusLoss, Event, Policy, Allegiance, Clear, Faulted, Pending, Fate, Ends, Sweep, AcaTask, AllTasks, FailedTask, NexusTasks, Notice, Quiet, Reported, OthersLost, NexusLost, UnitWasReset, HardWasReset, PowerCameOn, NoTask, Change, Answer, Ruling, Keeps, Changes}
+use Rattle.rules.specs.Types.{Attribute, Simple, HeadOfQueue, Ordered, Aca, Enabled, Task, Asked, Known, NoneOfFour, Entry, Finish, Good, CheckCondition, Function, AbortTask, AbortTaskSet, ClearTaskSet, ClearAca, LogicalUnitReset, Unknown, Happening, PowerOn, HardReset, NexusLoss, Event, Policy, Allegiance, Clear, Faulted, Pending, Top, Fate, Sweep, AcaTask, AllTasks, FailedTask, NexusTasks, Notice, Quiet, Reported, OthersLost, ReportedAndOthersLost, NexusLost, UnitWasReset, HardWasReset, PowerCameOn, NoTask, Change, Answer, Ruling, Keeps, Changes}
 use Rattle.values.specs.Headers.{runAfter, withAca, withRun}
 use Rattle.rules.specs.Tasks.{places, nexuses, isAca, isEnabled, acaTask, ofNexus, same, restate}
-use Rattle.rules.specs.Bits.{afterPowerOn, afterHardReset, afterUnitReset}
-use Rattle.rules.specs.Rulings.{State, fresh, endIf, kept, lost, fateByQerr, fateOf, newcomers, tellLosersFrom, noted, ruled}
-use Rattle.rules.specs.Rules.{sweeping, asksAca, check2, badAttribute, attributeOf, newTask, enter, finish, resetting, clearing, manage, acaWithout, happen, ruling}
+use Rattle.rules.specs.Bits.{noPending, without, afterPowerOn, afterHardReset, afterUnitReset}
+use Rattle.rules.specs.Rulings.{State, isClear, fresh, endIf, kept, lost, alsoByQerr, fateByQerr, orElse, fateOf, newcomers, tellLosersFrom, noted, ruled}
+use Rattle.rules.specs.Rules.{sweeping, acaByNaca, failing, asksAca, check2, badAttribute, attributeOf, newTask, enter, finish, resetting, clearing, manage, acaWithout, happen, ruling}
 use Rattle.rules.specs.Well.{held, statesFit, faultFits, distinct, tooHigh, wellFormed}
 use Rattle.rules.proofs.WellParts.{well-formed-parts}
 use Rattle.rules.proofs.Fates.{isEnds, any-kept, length-split, gone}
 use Rattle.rules.proofs.Distinct.{length-restate, any-restate, distinct-restate, distinct-kept, distinct-join, same-parts}
 use Rattle.rules.proofs.Settled.{within-refl, settled-settle, settled-ordinary}
 use Rattle.rules.proofs.Held.{held-kept, held-blocked, held-join, held-found, held-one, held-faulted}
-use Rattle.rules.proofs.Cases.{enter-cases, check2-none, completion-cases, other-cases}
+use Rattle.rules.proofs.Cases.{enter-cases, failing-cases, check2-none, completion-cases, other-cases}
 
 -- the test, taken apart
 pub record Tested (s : State) : Type 0 where
@@ -95,6 +95,8 @@ pub length-noted : (k : Notice) (ls : List Task) (ps : List Pending) → length 
 length-noted Quiet ls ps = refl
 length-noted (Reported n b) ls ps = length-set ps n _
 length-noted (OthersLost n) ls ps = length-tell 0 n ls ps
+length-noted (ReportedAndOthersLost n b) ls ps =
+    length-tell 0 n ls (set ps n (without b (getD ps n noPending))) ∙ length-set ps n (without b (getD ps n noPending))
 length-noted (NexusLost n) ls ps = length-set ps n _
 length-noted UnitWasReset ls ps = length-map ps afterUnitReset
 length-noted HardWasReset ls ps = length-map ps afterHardReset
@@ -207,13 +209,36 @@ allowed-accept (Faulted f) ts fs c e o b =
     let k = check2-none f c (any acaTask ts) o in
     (refl, (k .2, aca-asked (c .asked) (k .1), refl, k .0))
 
+allowed-failing :
+    (a : Allegiance) (naca : Bool) (n : ℕ) (ts : List Task) (fs : List Fate) → a ≡ Clear → statesFit a ts ≡ true
+    → Allowed a (acaByNaca naca n Clear) ts fs []
+allowed-failing (Faulted f) naca n ts fs e w = not-both (ap isClear e) refl
+allowed-failing Clear true n ts fs e w = refl
+allowed-failing Clear false n ts fs e w = allowed-same Clear ts fs w
+
+-- an ACA begins, or none does; the one that stands stays
+fair-failing : (s : State) (c : Entry) (w : Sweep) (o : Top) → Tested s → c .nexus < nexuses → Fair s (failing (s .header .aca) (s .header) c w o)
+fair-failing s c w o t l =
+    failing-cases (Fair s) (s .header) c w o
+    (λ e.
+    record {
+      run = t .run;
+      fault = cases (λ a. faultFits a ≡ true) (c .naca) (λ k. lt-ltb (c .nexus) nexuses l) (λ k. refl);
+      joining = tt;
+      allowed = allowed-failing (s .header .aca) (c .naca) (c .nexus) (s .tasks) fs e (t .states);
+    })
+    (λ f e. fair-same s w (s .header .run) _ t (t .run))
+  where
+    fs : List Fate
+    fs = map (fateOf (alsoByQerr (s .header .policy .qerr) (s .header .policy) (c .nexus) w)) (s .tasks)
+
 fair-enter :
     (s : State) (c : Entry) (p : Pending) → Tested s → c .nexus < nexuses
     → FairR s (enter (s .header) c (any (same (c .nexus) (c .tag)) (s .tasks)) (any acaTask (s .tasks)) p)
 unfolding newTask
 fair-enter s c p w l =
     enter-cases (FairR s) (s .header) c (any (same (c .nexus) (c .tag)) (s .tasks)) (any acaTask (s .tasks)) p
-    (λ se v o. fair-same s v (s .header .run) _ w (w .run))
+    (λ se v o. fair-failing s c v o w l)
     (λ st. tt)
     λ k.
     record {
@@ -242,7 +267,7 @@ none-left (Faulted f) n g p ts t e h k =
     (λ u. hit (acaTask u) (same n g u) (fateByQerr (p .qerr) p n u))
     (held-one f [] (same n g) ts t e h k))
   where
-    hit : (a b : Bool) (r : Fate) → a && not b ≡ false → a && not (isEnds (cond b (Ends 0x02) r)) ≡ false
+    hit : (a b : Bool) (r : Fate) → a && not b ≡ false → a && not (isEnds (orElse (endIf b 0x02) r)) ≡ false
     hit a true r e = e
     hit true false r e = not-both refl e
     hit false false r e = refl

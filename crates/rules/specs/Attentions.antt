@@ -8,19 +8,20 @@
 --   passesAca a c aca          := check 2 lets the command c pass, by the allegiance and whether an ACA task is there
 --   reaches3 s c, reportedBy s c  := checks 1 and 2 let the command c pass; what check 3 reports to its nexus
 --   clearedBy s n i            := what nexus i gets where all tasks end for nexus n
+--   failsAtEntry s c           := the command c ends with 02h at entry while no ACA is in effect
 --   completes s n g, endsOthers q  := a completion of that nexus and tag is accepted; QERR ends tasks of other nexuses
 --   byFunction s n f i, byHappening c i, caused s e i  := what reaches nexus i by a function from nexus n, by a condition, by an event
 --   attention s e i            := what the event e brings to nexus i in the state s
 use Prim.Native.Nat.{ℕ}
-use mathlib.Core.Bool.{Bool, true, false, cond, _&&_, not}
+use mathlib.Core.Bool.{Bool, true, false, cond, _&&_, _||_, not}
 use mathlib.Core.List.{List, [], _∷_}
 use mathlib.Core.Option.{Option, none, some}
 use lib.Dec.{eqb, ltb}
 use Rattle.laws.specs.Lists.{any, first}
 use Rattle.rules.specs.Types.{Task, Entry, Finish, Function, Happening, Event, Qerr, Allegiance, Pending, Bit}
 use Rattle.rules.specs.Tasks.{nexuses, acaTask, ofNexus, same, enabledTask}
-use Rattle.rules.specs.Rulings.{State, pendingOf}
-use Rattle.rules.specs.Rules.{asksAca, nexusOf}
+use Rattle.rules.specs.Rulings.{State, isClear, pendingOf}
+use Rattle.rules.specs.Rules.{asksAca, badAttribute, nexusOf}
 
 -- By rank ----------------------------------------------------------------------------------------------------------------------------------
 
@@ -83,6 +84,14 @@ reportedBy s c = cond (reaches3 s c && not (c .exempt)) (reportsBit (highest (pe
 abbrev pub clearedBy : State → ℕ → ℕ → Attention
 clearedBy s n i = cond (not (s .header .policy .tas) && not (eqb i n) && any (ofNexus i) (s .tasks)) (Gets Bit.ClearedBit) Unmoved
 
+-- RULES 11.3: check 1, 3 or 4 ends it, by RULES 5.2, 5.8 and 5.11; check 2 stops nobody without an ACA
+abbrev pub failsAtEntry : State → Entry → Bool
+failsAtEntry s c =
+    isClear (s .header .aca)
+    && (any (same (c .nexus) (c .tag)) (s .tasks)
+    || (not (c .exempt) && any (isSet (pendingOf s (c .nexus))) ranks)
+    || badAttribute (s .header .aca) (c .asked))
+
 -- RULES 11.3: a completion is accepted: the task is there (else answer 5) and enabled (else answer 6)
 abbrev pub completes : State → ℕ → ℕ → Bool
 completes s n g = any (λ (t : Task). same n g t && enabledTask t) (s .tasks)
@@ -108,9 +117,11 @@ byHappening Happening.PowerOn i = Gets Bit.PowerBit
 byHappening Happening.HardReset i = Gets Bit.HardBit
 byHappening (Happening.NexusLoss n) i = cond (eqb i n) (Gets Bit.LossBit) Unmoved
 
--- RULES 11.2 to 11.4: GOOD ends no other task; a CHECK CONDITION reaches another nexus by QERR alone
+-- RULES 11.2 to 11.4: GOOD ends no other task; a CHECK CONDITION, at entry or of a task, reaches another nexus by QERR alone
 abbrev pub caused : State → Event → ℕ → Attention
-caused s (Event.Command c) i = cond (eqb i (c .nexus)) (reportedBy s c) Unmoved
+caused s (Event.Command c) i =
+    cond (eqb i (c .nexus)) (reportedBy s c)
+    (cond (failsAtEntry s c && endsOthers (s .header .policy .qerr)) (clearedBy s (c .nexus) i) Unmoved)
 caused s (Event.Completion n g Finish.Good) i = Unmoved
 caused s (Event.Completion n g Finish.CheckCondition) i = cond (completes s n g && endsOthers (s .header .policy .qerr)) (clearedBy s n i) Unmoved
 caused s (Event.Management n f) i = byFunction s n f i

@@ -1,9 +1,12 @@
 -- RULES 5 to 9: what the rules decide about each event.
 --
 --   sense k c q              := a sense: key, code, qualifier
---   reporting n o            := the notice that the bit o of nexus n is reported, if it is one
---   checkCondition h c se w o  := the command c ends at entry with 02h and the sense se; those whom the check's own sweep w names end, and the
---                               bit o is reported, if it is one
+--   tellsOthers q tas        := nexuses that lost tasks to the CHECK CONDITION of another are told of it by a pending bit
+--   telling n o others       := the notice that the bit o of nexus n is reported, if it is one, and that other nexuses are told of what they lost, if so
+--   acaByNaca naca n a       := the allegiance after a CHECK CONDITION of nexus n, by its NACA bit; a is the one with NACA 0
+--   failing a h c w o        := the change where the command c ends at entry with 02h, by the allegiance: those whom the check's own sweep w names end, the bit o
+--                               is reported, if it is one, and what QERR and NACA add
+--   checkCondition h c se w o  := the ruling that says so, with the sense se
 --   bitToReport c p          := the bit of the pending bits p that check 3 reports to the command c, if there is one
 --   check1 .. check5 ..      := the ruling of that check, or none where the command goes on
 --   newTask c                := the accepted command as a task
@@ -28,7 +31,7 @@ use Rattle.rules.specs.Types.{Top, Sense, Ended, Sweep, Notice, Joins, C
 use Rattle.values.specs.Headers.{withAca, withRun, runNext}
 use Rattle.rules.specs.Tasks.{places, nexuses, isAca, isEnabled, acaTask, same, isNamed}
 use Rattle.rules.specs.Bits.{top, senseFor}
-use Rattle.rules.specs.Rulings.{State, isClear, pendingOf, turn, ruled, answerOf, reportOf}
+use Rattle.rules.specs.Rulings.{State, isClear, pendingOf, turn, alsoByQerr, ruled, answerOf, reportOf}
 
 -- RULES 4.3: tasks end by a sweep, and nothing else changes
 abbrev pub sweeping : Header → Sweep → Change
@@ -42,15 +45,36 @@ sense k c q = record { key = k; code = c; qualifier = q }
 abbrev pub endedWith : ℕ → Answer
 endedWith st = Answer.EndedAtEntry st (sense 0 0 0)
 
--- RULES 5.8: a bit that is reported, if there is one
-abbrev pub reporting : ℕ → Top → Notice
-reporting n Top.NoBit = Notice.Quiet
-reporting n (Top.Highest b) = Notice.Reported n b
+-- RULES 6.1 and 6.2: only QERR 01b aborts tasks of another nexus; with TAS 1 they are told by 40h
+abbrev pub tellsOthers : Qerr → Bool → Bool
+tellsOthers Qerr.EndNone tas = false
+tellsOthers Qerr.EndAll tas = not tas
+tellsOthers Qerr.EndNexus tas = false
 
--- RULES 5.1: checks 1, 3 and 4 end a command with 02h. The header stays, and nobody ends but by the check's own sweep.
+-- RULES 4.7 and 5.8: the bit of check 3, where there is one, and whether others are told
+abbrev pub telling : ℕ → Top → Bool → Notice
+telling n Top.NoBit others = cond others (Notice.OthersLost n) Notice.Quiet
+telling n (Top.Highest b) others = cond others (Notice.ReportedAndOthersLost n b) (Notice.Reported n b)
+
+-- RULES 5.17 and 6.3: of a command and of a task alike
+abbrev pub acaByNaca : Bool → ℕ → Allegiance → Allegiance
+acaByNaca naca n a = cond naca (Allegiance.Faulted n) a
+
+-- RULES 5.16 to 5.18 and 5.20: QERR and then NACA, where no ACA is in effect; in an ACA neither. Run stays.
+abbrev pub failing : Allegiance → Header → Entry → Sweep → Top → Change
+failing Allegiance.Clear h c w o =
+    record {
+      sweep = alsoByQerr (h .policy .qerr) (h .policy) (c .nexus) w;
+      joins = Joins.NoTask;
+      header = withAca h (acaByNaca (c .naca) (c .nexus) Allegiance.Clear);
+      notice = telling (c .nexus) o (tellsOthers (h .policy .qerr) (h .policy .tas));
+    }
+failing (Allegiance.Faulted f) h c w o =
+    record { sweep = w; joins = Joins.NoTask; header = h; notice = telling (c .nexus) o false }
+
+-- RULES 5.1: how checks 1, 3 and 4 end a command
 abbrev pub checkCondition : Header → Entry → Sense → Sweep → Top → Ruling
-checkCondition h c se w o =
-    Ruling.Changes (Answer.EndedAtEntry 0x02 se) (record { sweep = w; joins = Joins.NoTask; header = h; notice = reporting (c .nexus) o })
+checkCondition h c se w o = Ruling.Changes (Answer.EndedAtEntry 0x02 se) (failing (h .aca) h c w o)
 
 -- RULES 5.15: a check stops the command, or lets it go on
 abbrev pub onlyIf : Bool → Ruling → Option Ruling
@@ -66,7 +90,7 @@ abbrev pub asksAca : Asked → Bool
 asksAca (Asked.Known a) = isAca a
 asksAca Asked.NoneOfFour = false
 
--- RULES 5.4 to 5.6: check 2, ACA in effect
+-- RULES 5.4 to 5.6 and 5.19: check 2, ACA in effect
 abbrev pub check2 : Allegiance → Entry → Bool → Option Ruling
 check2 Allegiance.Clear c aca = none
 check2 (Allegiance.Faulted f) c aca =
@@ -92,7 +116,7 @@ badAttribute a (Asked.Known t) = isAca t && isClear a
 abbrev pub check4 : Header → Entry → Option Ruling
 check4 h c = onlyIf (badAttribute (h .aca) (c .asked)) (checkCondition h c (sense 0x5 0x49 0x00) Sweep.Nobody Top.NoBit)
 
--- RULES 5.12 and 5.13: check 5, full
+-- RULES 5.12, 5.13 and 5.19: check 5, full
 abbrev pub check5 : Header → Option Ruling
 check5 h = onlyIf (leb places (h .count)) (Ruling.Keeps (endedWith 0x28))
 
@@ -132,20 +156,9 @@ byChecks cs h c = firstThatRules cs (Ruling.Changes Answer.Done (accepting h c))
 unfoldable pub enter : Header → Entry → Bool → Bool → Pending → Ruling
 enter h c here aca p = byChecks (checks h c here aca p) h c
 
--- RULES 6.1
-abbrev pub toldWithoutTas : Bool → ℕ → Notice
-toldWithoutTas true n = Notice.Quiet
-toldWithoutTas false n = Notice.OthersLost n
-
--- RULES 6.2: only QERR 01b aborts tasks of another nexus
-abbrev pub toldByQerr : Qerr → Bool → ℕ → Notice
-toldByQerr Qerr.EndNone tas n = Notice.Quiet
-toldByQerr Qerr.EndAll tas n = toldWithoutTas tas n
-toldByQerr Qerr.EndNexus tas n = Notice.Quiet
-
 -- RULES 6.3 and 6.4
 abbrev pub acaAfter : Task → Allegiance → Allegiance
-acaAfter t a = cond (t .naca) (Allegiance.Faulted (t .nexus)) (cond (acaTask t) Allegiance.Clear a)
+acaAfter t a = acaByNaca (t .naca) (t .nexus) (cond (acaTask t) Allegiance.Clear a)
 
 -- RULES 6.5 to 6.7: GOOD, CHECK CONDITION
 abbrev pub finish : Header → Finish → Task → Bool → Change
@@ -156,7 +169,7 @@ finish h Finish.CheckCondition t itsTurn =
       sweep = Sweep.FailedTask (t .nexus) (t .tag) (h .policy);
       joins = Joins.NoTask;
       header = withAca (runNext h (t .attribute) itsTurn) (acaAfter t (h .aca));
-      notice = toldByQerr (h .policy .qerr) (h .policy .tas) (t .nexus);
+      notice = telling (t .nexus) Top.NoBit (tellsOthers (h .policy .qerr) (h .policy .tas));
     }
 
 -- RULES 6.8: answers 5 and 6, else the task ends
@@ -176,7 +189,7 @@ clearing h n (Allegiance.Faulted f) = cond (eqb n f) (Ruling.Changes Answer.Done
 -- RULES 7.5: CLEAR TASK SET
 abbrev pub clearingSet : Header → ℕ → Change
 clearingSet h n =
-    record { sweep = Sweep.ClearedBy n (h .policy); joins = Joins.NoTask; header = h; notice = toldWithoutTas (h .policy .tas) n }
+    record { sweep = Sweep.ClearedBy n (h .policy); joins = Joins.NoTask; header = h; notice = telling n Top.NoBit (not (h .policy .tas)) }
 
 -- RULES 7.2 to 7.10: every function
 unfoldable pub manage : Header → ℕ → Function → Ruling

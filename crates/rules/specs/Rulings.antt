@@ -6,6 +6,10 @@
 --   fresh p              := a fresh set under the policy p
 --   kept fs xs, lost fs xs   := those of xs that stay, and those that end, under the fates fs in their order
 --   abortedBy p n t      := the fate of a task that CLEAR TASK SET or QERR aborts for nexus n under the policy p
+--   fateAlone w t        := what the sweep w does to the task t, but for what QERR adds
+--   alsoByQerr q p n w   := the sweep w of a CHECK CONDITION for nexus n, and what QERR adds to it under the policy p
+--   fateByQerr q p n t   := what QERR does to the task t, for nexus n
+--   orElse f g           := the fate f, or g where f lets the task stay
 --   fateOf w t, fatesOf s r  := what the sweep w does to the task t; what the ruling r does to each task of s
 --   newcomers j          := the task that joins, as a list of one or none
 --   tellLosersFrom i n ls ps := bit 4 for every nexus but n that has a task among ls; ps are the bits of nexus i and above
@@ -74,21 +78,40 @@ module _ {A : Type 0} where
 abbrev pub abortedBy : Policy → ℕ → Task → Fate
 abortedBy p n t = Fate.Ends (cond (not (ofNexus n t) && p .tas) 0x40 0xFF)
 
--- RULES 4.5 and 4.6: by QERR, an ACA in effect or not
+-- RULES 4.3, 4.4 and 6.6: one task, by the sweep alone
+abbrev pub fateAlone : Sweep → Task → Fate
+fateAlone Sweep.Nobody t = Fate.Stays
+fateAlone (Sweep.OneTask n g st) t = endIf (same n g t) st
+fateAlone (Sweep.NexusTasks n) t = endIf (ofNexus n t) 0xFF
+fateAlone Sweep.AcaTask t = endIf (acaTask t) 0xFF
+fateAlone Sweep.AllTasks t = Fate.Ends 0xFF
+fateAlone (Sweep.ClearedBy n p) t = abortedBy p n t
+fateAlone (Sweep.FailedTask n g p) t = endIf (same n g t) 0x02
+
+-- RULES 4.5, 4.6 and 5.16. The sweep w ends nobody, or the tasks of nexus n with FFh: those 01b and 11b end in the same way (`also-fate`).
+abbrev pub alsoByQerr : Qerr → Policy → ℕ → Sweep → Sweep
+alsoByQerr Qerr.EndNone p n w = w
+alsoByQerr Qerr.EndAll p n w = Sweep.ClearedBy n p
+alsoByQerr Qerr.EndNexus p n w = Sweep.NexusTasks n
+
+-- RULES 4.5 and 4.6: one task, by QERR
 abbrev pub fateByQerr : Qerr → Policy → ℕ → Task → Fate
-fateByQerr Qerr.EndNone p n t = Fate.Stays
-fateByQerr Qerr.EndAll p n t = abortedBy p n t
-fateByQerr Qerr.EndNexus p n t = endIf (ofNexus n t) 0xFF
+fateByQerr q p n t = fateAlone (alsoByQerr q p n Sweep.Nobody) t
+
+-- RULES 6.6: a task that ends by the first is not asked of the second
+abbrev pub orElse : Fate → Fate → Fate
+orElse Fate.Stays other = other
+orElse (Fate.Ends st) other = Fate.Ends st
 
 -- RULES 4.3 to 4.6 and 6.6: one task, by the sweep
 abbrev pub fateOf : Sweep → Task → Fate
-fateOf Sweep.Nobody t = Fate.Stays
-fateOf (Sweep.OneTask n g st) t = endIf (same n g t) st
-fateOf (Sweep.NexusTasks n) t = endIf (ofNexus n t) 0xFF
-fateOf Sweep.AcaTask t = endIf (acaTask t) 0xFF
-fateOf Sweep.AllTasks t = Fate.Ends 0xFF
-fateOf (Sweep.ClearedBy n p) t = abortedBy p n t
-fateOf (Sweep.FailedTask n g p) t = cond (same n g t) (Fate.Ends 0x02) (fateByQerr (p .qerr) p n t)
+fateOf Sweep.Nobody t = fateAlone Sweep.Nobody t
+fateOf (Sweep.OneTask n g st) t = fateAlone (Sweep.OneTask n g st) t
+fateOf (Sweep.NexusTasks n) t = fateAlone (Sweep.NexusTasks n) t
+fateOf Sweep.AcaTask t = fateAlone Sweep.AcaTask t
+fateOf Sweep.AllTasks t = fateAlone Sweep.AllTasks t
+fateOf (Sweep.ClearedBy n p) t = fateAlone (Sweep.ClearedBy n p) t
+fateOf (Sweep.FailedTask n g p) t = orElse (fateAlone (Sweep.FailedTask n g p) t) (fateByQerr (p .qerr) p n t)
 
 -- RULES 4.3: each task of a state, by the ruling
 abbrev pub fatesOf : State → Ruling → List Fate
@@ -115,6 +138,7 @@ abbrev pub noted : Notice → List Task → List Pending → List Pending
 noted Notice.Quiet ls ps = ps
 noted (Notice.Reported n b) ls ps = set ps n (without b (getD ps n noPending))
 noted (Notice.OthersLost n) ls ps = tellLosersFrom 0 n ls ps
+noted (Notice.ReportedAndOthersLost n b) ls ps = tellLosersFrom 0 n ls (set ps n (without b (getD ps n noPending)))
 noted (Notice.NexusLost n) ls ps = set ps n (afterNexusLoss (getD ps n noPending))
 noted Notice.UnitWasReset ls ps = map afterUnitReset ps
 noted Notice.HardWasReset ls ps = map afterHardReset ps

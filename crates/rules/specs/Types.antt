@@ -25,7 +25,7 @@ pub use Rattle.values.specs.declared.Ended.{Ended}
 pub use Rattle.values.specs.declared.Sweep.{Sweep, the-variants.Nobody, the-variants.OneTask, the-variants.NexusTasks, the-variants.AcaTask}
 pub use Rattle.values.specs.declared.Sweep.{the-variants.AllTasks, the-variants.ClearedBy, the-variants.FailedTask}
 pub use Rattle.values.specs.declared.Notice.{Notice, the-variants.Quiet, the-variants.Reported, the-variants.OthersLost, the-variants.NexusLost}
-pub use Rattle.values.specs.declared.Notice.{the-variants.UnitWasReset, the-variants.HardWasReset, the-variants.PowerCameOn}
+pub use Rattle.values.specs.declared.Notice.{the-variants.ReportedAndOthersLost, the-variants.UnitWasReset, the-variants.HardWasReset, the-variants.PowerCameOn}
 pub use Rattle.values.specs.declared.Joins.{Joins, the-variants.NoTask, the-variants.NewTask}
 pub use Rattle.values.specs.declared.Change.{Change}
 pub use Rattle.values.specs.declared.Ruling.{Ruling, the-variants.Keeps, the-variants.Changes}

@@ -196,7 +196,7 @@ pub enum Sweep {
     AcaTask,
     // all, with FFh
     AllTasks,
-    // all, by a CLEAR TASK SET from this nexus under this policy
+    // all, by a CLEAR TASK SET from this nexus or by QERR 01b for it, under this policy
     ClearedBy(u8, Policy),
     // the task of this nexus and tag with CHECK CONDITION, and what QERR adds under this policy
     FailedTask(u8, Tag, Policy),
@@ -209,6 +209,8 @@ pub enum Notice {
     Reported(u8, Bit),
     // every nexus but this one that lost a task learns that its commands were cleared
     OthersLost(u8),
+    // both at once: this bit of this nexus was reported, and every other nexus that lost a task learns of it
+    ReportedAndOthersLost(u8, Bit),
     // this nexus was lost
     NexusLost(u8),
     UnitWasReset,
