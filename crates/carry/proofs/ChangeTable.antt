@@ -21,7 +21,7 @@ use Rattle.steps.specs.Steps.{restatedBytes, losers, keptCount, closedBytes, en
 use Rattle.steps.proofs.StepTables.{withTasks, withPending, settled-table, blocked-table}
 use Rattle.steps.proofs.Closed.{kept-count, losers-are, ends-are, closed-table, joined-table, header-table}
 use Rattle.steps.proofs.Noted.{noted-table}
-use Rattle.rules.specs.Types.{Task, Header, Ended, Allegiance, Clear, Faulted, Notice, Quiet, Reported, OthersLost, NexusLost, UnitWasReset, HardWasReset, PowerCameOn, Joins, NoTask, NewTask, Change, Done, Changes}
+use Rattle.rules.specs.Types.{Task, Header, Ended, Allegiance, Clear, Faulted, Notice, Quiet, Reported, OthersLost, ReportedAndOthersLost, NexusLost, UnitWasReset, HardWasReset, PowerCameOn, Joins, NoTask, NewTask, Change, Done, Changes}
 use Rattle.carry.specs.Carrying.{notedUnlessQuiet, joinedBytes, HeaderKept}
 use Rattle.carry.specs.Changes.{ChangeFits, ChangedAs}
 
@@ -30,6 +30,7 @@ module _ (cs : ℕ → ℕ) (s : State) (eight : length (s .pending) ≡ nexuses
   noted-step Quiet ls = refl
   noted-step (Reported n b) ls = noted-table cs s (Reported n b) ls eight
   noted-step (OthersLost n) ls = noted-table cs s (OthersLost n) ls eight
+  noted-step (ReportedAndOthersLost n b) ls = noted-table cs s (ReportedAndOthersLost n b) ls eight
   noted-step (NexusLost n) ls = noted-table cs s (NexusLost n) ls eight
   noted-step UnitWasReset ls = noted-table cs s UnitWasReset ls eight
   noted-step HardWasReset ls = noted-table cs s HardWasReset ls eight

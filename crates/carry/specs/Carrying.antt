@@ -15,12 +15,13 @@ use Rattle.values.specs.Headers.{lasting}
 use Rattle.rules.specs.Well.{faultFits}
 use Rattle.records.specs.Records.{headerBytes, taskBytes}
 use Rattle.steps.specs.Steps.{notedBytes}
-use Rattle.rules.specs.Types.{Task, Header, Notice, Quiet, Reported, OthersLost, NexusLost, UnitWasReset, HardWasReset, PowerCameOn, Joins, NoTask, NewTask}
+use Rattle.rules.specs.Types.{Task, Header, Notice, Quiet, Reported, OthersLost, ReportedAndOthersLost, NexusLost, UnitWasReset, HardWasReset, PowerCameOn, Joins, NoTask, NewTask}
 
 abbrev pub notedUnlessQuiet : Notice → List Task → List ℕ → List ℕ
 notedUnlessQuiet Quiet ls b = b
 notedUnlessQuiet (Reported n t) ls b = notedBytes (Reported n t) ls b
 notedUnlessQuiet (OthersLost n) ls b = notedBytes (OthersLost n) ls b
+notedUnlessQuiet (ReportedAndOthersLost n t) ls b = notedBytes (ReportedAndOthersLost n t) ls b
 notedUnlessQuiet (NexusLost n) ls b = notedBytes (NexusLost n) ls b
 notedUnlessQuiet UnitWasReset ls b = notedBytes UnitWasReset ls b
 notedUnlessQuiet HardWasReset ls b = notedBytes HardWasReset ls b

@@ -9,7 +9,7 @@ use values::Task;
 ghost use mathlib.Core.Path.{_≡_};
 ghost use mathlib.Core.Bool.{cond};
 ghost use Rattle.rules.specs.Tasks.{ofNexus, same};
-ghost use Rattle.rules.specs.Rulings.{endIf, abortedBy, fateByQerr, fateOf};
+ghost use Rattle.rules.specs.Rulings.{endIf, abortedBy, fateByQerr, orElse, fateOf};
 
 pub fn of_nexus(n: u8, t: Task) -> bool
     ensures { λ r. ⌜ r ≡ ofNexus n t ⌝ }
@@ -57,7 +57,7 @@ fn fate_by_qerr(p: Policy, n: u8, t: Task) -> Fate
 }
 
 fn fate_if(first: bool, status: u8, other: Fate) -> Fate
-    ensures { λ r. ⌜ r ≡ cond first (Fate.Ends status) other ⌝ }
+    ensures { λ r. ⌜ r ≡ orElse (endIf first status) other ⌝ }
 {
     if first { Fate::Ends(status) } else { other }
 }

@@ -3,7 +3,8 @@ use decide::states::is_aca;
 use decide::states::is_enabled;
 use decide::turns::Found;
 use parts::aca_if;
-use parts::told_without_tas;
+use parts::tell;
+use parts::tells_others;
 use values::Allegiance;
 use values::Answer;
 use values::Change;
@@ -11,24 +12,14 @@ use values::Finish;
 use values::Header;
 use values::Joins;
 use values::Notice;
-use values::Qerr;
 use values::Ruling;
 use values::Sweep;
 use values::Task;
+use values::Top;
 ghost use mathlib.Core.Path.{_≡_};
 ghost use mathlib.Core.Option.{some};
-ghost use Rattle.rules.specs.Rules.{toldByQerr, acaAfter};
+ghost use Rattle.rules.specs.Rules.{acaAfter};
 ghost use Rattle.decide.specs.Searches.{taskIn};
-
-fn told_by_qerr(qerr: Qerr, tas: bool, n: u8) -> Notice
-    ensures { λ r. ⌜ r ≡ toldByQerr qerr tas n ⌝ }
-{
-    match qerr {
-        Qerr::EndNone => Notice::Quiet,
-        Qerr::EndAll => told_without_tas(tas, n),
-        Qerr::EndNexus => Notice::Quiet,
-    }
-}
 
 fn aca_after(t: Task, aca: Allegiance) -> Allegiance
     ensures { λ r. ⌜ r ≡ acaAfter t aca ⌝ }
@@ -59,7 +50,7 @@ pub fn finish(h: Header, f: Finish, t: Task, named: bool) -> Change
             sweep: Sweep::FailedTask(t.nexus, t.tag, policy),
             joins: Joins::NoTask,
             header: h.run_next(a, named).with_aca(aca_after(t, aca)),
-            notice: told_by_qerr(qerr, policy.tas, t.nexus),
+            notice: tell(t.nexus, Top::NoBit, tells_others(qerr, policy.tas)),
         },
     }
 }

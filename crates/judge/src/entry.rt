@@ -1,13 +1,17 @@
 // RULES 5: entry of a command, the checks in their order.
 use decide::pending::sense_for;
+use parts::aca_if;
 use parts::asks_aca;
 use parts::attribute_of;
 use parts::bad_attribute;
 use parts::bit_if;
 use parts::held_off;
 use parts::held_status;
+use parts::is_clear;
 use parts::is_full;
-use parts::sweeping_by;
+use parts::tell;
+use parts::tells_others;
+use values::Allegiance;
 use values::Answer;
 use values::Change;
 use values::Entry;
@@ -15,6 +19,8 @@ use values::Header;
 use values::Joins;
 use values::Notice;
 use values::Pending;
+use values::Policy;
+use values::Qerr;
 use values::Ruling;
 use values::Sense;
 use values::Sweep;
@@ -22,7 +28,9 @@ use values::Task;
 use values::TaskState;
 use values::Top;
 ghost use mathlib.Core.Path.{_≡_};
-ghost use Rattle.rules.specs.Rules.{endedWith, reporting, checkCondition, newTask, accepting};
+ghost use mathlib.Core.Bool.{cond};
+ghost use Rattle.rules.specs.Rulings.{alsoByQerr};
+ghost use Rattle.rules.specs.Rules.{endedWith, failing, newTask, accepting};
 ghost use Rattle.judge.specs.LastChecks.{lastChecks, checksPastAca};
 
 fn sense(key: u8, code: u8, qualifier: u8) -> Sense
@@ -41,28 +49,36 @@ fn ended_with(status: u8) -> Answer
     Answer::EndedAtEntry(status, sense(0, 0, 0))
 }
 
-fn reporting_bit(n: u8, top: Top) -> Notice
-    ensures { λ r. ⌜ r ≡ reporting n top ⌝ }
+fn by_qerr_if(applies: bool, p: Policy, n: u8, w: Sweep) -> Sweep
+    ensures { λ r. ⌜ r ≡ cond applies (alsoByQerr (p .qerr) p n w) w ⌝ }
 {
-    match top {
-        Top::NoBit => Notice::Quiet,
-        Top::Highest(b) => Notice::Reported(n, b),
+    let qerr = p.qerr;
+    if applies {
+        match qerr {
+            Qerr::EndNone => w,
+            Qerr::EndAll => Sweep::ClearedBy(n, p),
+            Qerr::EndNexus => Sweep::NexusTasks(n),
+        }
+    } else {
+        w
     }
 }
 
-// How checks 1, 3 and 4 end a command; check 4 writes it out.
-fn check_condition(h: Header, c: Entry, told: Sense, w: Sweep, top: Top) -> Ruling
-    ensures { λ r. ⌜ r ≡ checkCondition h c told w top ⌝ }
+// What checks 1, 3 and 4 do to the set. Each writes its answer itself: by a function an event takes some 30 instructions more at 3 tasks.
+fn failed(h: Header, c: Entry, w: Sweep, top: Top) -> Change
+    ensures { λ r. ⌜ r ≡ failing (h .aca) h c w top ⌝ }
 {
-    Ruling::Changes(
-        Answer::EndedAtEntry(0x02, told),
-        Change {
-            sweep: w,
-            joins: Joins::NoTask,
-            header: h,
-            notice: reporting_bit(c.nexus, top),
-        },
-    )
+    let policy = h.policy;
+    let qerr = policy.qerr;
+    let aca = h.aca;
+    let naca = c.naca;
+    let applies = is_clear(aca);
+    Change {
+        sweep: by_qerr_if(applies, policy, c.nexus, w),
+        joins: Joins::NoTask,
+        header: h.with_aca(aca_if(applies & naca, Allegiance::Faulted(c.nexus), aca)),
+        notice: tell(c.nexus, top, applies & tells_others(qerr, policy.tas)),
+    }
 }
 
 fn new_task(c: Entry) -> Task
@@ -96,10 +112,9 @@ fn last_checks(h: Header, c: Entry) -> Ruling
     let aca = h.aca;
     let asked = c.asked;
     if bad_attribute(aca, asked) {
-        // As check_condition has it. Called here too, that makes every event some 15 instructions longer at 3 tasks.
         return Ruling::Changes(
             Answer::EndedAtEntry(0x02, sense(0x5, 0x49, 0x00)),
-            sweeping_by(h, Sweep::Nobody),
+            failed(h, c, Sweep::Nobody, Top::NoBit),
         );
     }
     if is_full(h) {
@@ -114,7 +129,10 @@ fn checks_past_aca(h: Header, c: Entry, p: Pending) -> Ruling
 {
     let top = bit_if(c.exempt, p);
     match top {
-        Top::Highest(b) => check_condition(h, c, sense_for(b), Sweep::Nobody, top),
+        Top::Highest(b) => Ruling::Changes(
+            Answer::EndedAtEntry(0x02, sense_for(b)),
+            failed(h, c, Sweep::Nobody, top),
+        ),
         Top::NoBit => last_checks(h, c),
     }
 }
@@ -126,12 +144,9 @@ pub fn enter(h: Header, c: Entry, here: bool, has_aca: bool, p: Pending) -> Ruli
     let aca = h.aca;
     let asked = c.asked;
     if here {
-        return check_condition(
-            h,
-            c,
-            sense(0xB, 0x4E, 0x00),
-            Sweep::NexusTasks(c.nexus),
-            Top::NoBit,
+        return Ruling::Changes(
+            Answer::EndedAtEntry(0x02, sense(0xB, 0x4E, 0x00)),
+            failed(h, c, Sweep::NexusTasks(c.nexus), Top::NoBit),
         );
     }
     if held_off(aca, c.nexus, asks_aca(asked), has_aca) {

@@ -1,7 +1,7 @@
 // Management functions and conditions: the rulings on them, on values.
 use parts::aca_if;
 use parts::sweeping_by;
-use parts::told_without_tas;
+use parts::tell;
 use values::Allegiance;
 use values::Answer;
 use values::Change;
@@ -12,6 +12,7 @@ use values::Joins;
 use values::Notice;
 use values::Ruling;
 use values::Sweep;
+use values::Top;
 ghost use mathlib.Core.Path.{_≡_};
 ghost use Rattle.rules.specs.Rules.{resetting, clearing, clearingSet, acaWithout, losing};
 
@@ -52,7 +53,7 @@ fn clear_task_set(h: Header, n: u8) -> Change
         sweep: Sweep::ClearedBy(n, policy),
         joins: Joins::NoTask,
         header: h,
-        notice: told_without_tas(policy.tas, n),
+        notice: tell(n, Top::NoBit, !policy.tas),
     }
 }
 

@@ -58,6 +58,11 @@ fn noted_one(k: Notice, i: u8, lost: bool, p: Pending) -> Pending
         Notice::Quiet => p,
         Notice::Reported(n, b) => pending_if(i == n, without_bit(b, p), p),
         Notice::OthersLost(n) => pending_if(!(i == n) & lost, after_cleared(p), p),
+        Notice::ReportedAndOthersLost(n, b) => pending_if(
+            i == n,
+            without_bit(b, p),
+            pending_if(lost, after_cleared(p), p),
+        ),
         Notice::NexusLost(n) => pending_if(i == n, after_nexus_loss(p), p),
         Notice::UnitWasReset => after_unit_reset(p),
         Notice::HardWasReset => after_hard_reset(p),

@@ -10,6 +10,7 @@ use values::Joins;
 use values::MOST_TASKS;
 use values::Notice;
 use values::Pending;
+use values::Qerr;
 use values::Sweep;
 use values::Top;
 ghost use mathlib.Core.Path.{_≡_};
@@ -18,7 +19,7 @@ ghost use lib.Dec.{leb};
 ghost use Rattle.rules.specs.Tasks.{places};
 ghost use Rattle.rules.specs.Bits.{top};
 ghost use Rattle.rules.specs.Rulings.{isClear};
-ghost use Rattle.rules.specs.Rules.{sweeping, asksAca, badAttribute, attributeOf, toldWithoutTas};
+ghost use Rattle.rules.specs.Rules.{sweeping, asksAca, badAttribute, attributeOf, tellsOthers, telling};
 ghost use Rattle.parts.specs.CheckTwo.{heldOff, heldStatus};
 
 pub fn asks_aca(asked: Asked) -> bool
@@ -65,7 +66,7 @@ pub fn bit_if(exempt: bool, p: Pending) -> Top
     top_bit(p)
 }
 
-fn is_clear(aca: Allegiance) -> bool
+pub fn is_clear(aca: Allegiance) -> bool
     ensures { λ r. ⌜ r ≡ isClear aca ⌝ }
 {
     match aca {
@@ -109,13 +110,33 @@ pub fn sweeping_by(h: Header, w: Sweep) -> Change
     }
 }
 
-pub fn told_without_tas(tas: bool, n: u8) -> Notice
-    ensures { λ r. ⌜ r ≡ toldWithoutTas tas n ⌝ }
+// QERR and TAS have nexuses that lose tasks told by a bit.
+pub fn tells_others(qerr: Qerr, tas: bool) -> bool
+    ensures { λ r. ⌜ r ≡ tellsOthers qerr tas ⌝ }
 {
-    if tas {
-        Notice::Quiet
-    } else {
-        Notice::OthersLost(n)
+    match qerr {
+        Qerr::EndNone => false,
+        Qerr::EndAll => !tas,
+        Qerr::EndNexus => false,
+    }
+}
+
+fn notice_if(b: bool, yes: Notice, other: Notice) -> Notice
+    ensures { λ r. ⌜ r ≡ cond b yes other ⌝ }
+{
+    if b { yes } else { other }
+}
+
+pub fn tell(n: u8, top: Top, others: bool) -> Notice
+    ensures { λ r. ⌜ r ≡ telling n top others ⌝ }
+{
+    match top {
+        Top::NoBit => notice_if(others, Notice::OthersLost(n), Notice::Quiet),
+        Top::Highest(b) => notice_if(
+            others,
+            Notice::ReportedAndOthersLost(n, b),
+            Notice::Reported(n, b),
+        ),
     }
 }
 

@@ -1,6 +1,6 @@
 -- Who is told, done to the table of a state.
 use Prim.Native.Nat.{ℕ, zero, suc, _+_, _<_}
-use mathlib.Core.Bool.{Bool, cond, _&&_, not}
+use mathlib.Core.Bool.{Bool, true, false, cond, _&&_, not}
 use mathlib.Core.Path.{_≡_, refl, ap, sym, _∙_}
 use mathlib.Core.List.{List, [], _∷_, _++_, map}
 use native.Mathlib.Omega.{arith}
@@ -17,7 +17,7 @@ use Rattle.rules.specs.Rulings.{State, tellLosersFrom, noted}
 use Rattle.records.specs.Records.{headerBytes, nexusBytes}
 use Rattle.records.specs.Tables.{nexusRecords, taskRecords, tableWith}
 use Rattle.records.proofs.Values.{pending-back}
-use Rattle.rules.specs.Types.{Task, Pending, Notice, Quiet, Reported, OthersLost, NexusLost, UnitWasReset, HardWasReset, PowerCameOn}
+use Rattle.rules.specs.Types.{Task, Pending, Bit, Notice, Quiet, Reported, OthersLost, ReportedAndOthersLost, NexusLost, UnitWasReset, HardWasReset, PowerCameOn}
 use Rattle.steps.specs.Steps.{notedOne, notedRecord, nextPlace, notedBytes}
 use Rattle.steps.proofs.StepTables.{withPending}
 
@@ -72,6 +72,20 @@ unfolding notedFrom
 from-none k ls i [] h = refl
 from-none k ls i (p ∷ ps) h = rw (h i (any (ofNexus i) ls) p, from-none k ls (suc i) ps h)
 
+-- one nexus, and then those that lost tasks
+from-both : (b : Bit) (n : ℕ) (ls : List Task) (i : ℕ) (ps : List Pending)
+    → notedFrom (ReportedAndOthersLost n b) ls i ps ≡ tellLosersFrom i n ls (oneAt (without b) n i ps)
+unfolding notedFrom oneAt
+from-both b n ls i [] = refl
+from-both b n ls i (p ∷ ps) = rw (go (eqb i n), from-both b n ls (suc i) ps)
+  where
+    go :
+        (own : Bool)
+        → cond own (without b p) (cond (any (ofNexus i) ls) (afterCleared p) p)
+        ≡ cond (not own && any (ofNexus i) ls) (afterCleared (cond own (without b p) p)) (cond own (without b p) p)
+    go true = refl
+    go false = refl
+
 from-losers : (n : ℕ) (ls : List Task) (i : ℕ) (ps : List Pending) → notedFrom (OthersLost n) ls i ps ≡ tellLosersFrom i n ls ps
 unfolding notedFrom
 from-losers n ls i [] = refl
@@ -85,6 +99,7 @@ noted-is : (k : Notice) (ls : List Task) (ps : List Pending) → notedFrom k ls 
 noted-is Quiet ls ps = from-none Quiet ls 0 ps (λ i b p. refl)
 noted-is (Reported n b) ls ps = from-one (without b) (Reported n b) n ls 0 ps (λ i l p. refl) ∙ one-noted (without b) n ps
 noted-is (OthersLost n) ls ps = from-losers n ls 0 ps
+noted-is (ReportedAndOthersLost n b) ls ps = from-both b n ls 0 ps ∙ ap (tellLosersFrom 0 n ls) (one-noted (without b) n ps)
 noted-is (NexusLost n) ls ps = from-one afterNexusLoss (NexusLost n) n ls 0 ps (λ i l p. refl) ∙ one-noted afterNexusLoss n ps
 noted-is UnitWasReset ls ps = from-all afterUnitReset UnitWasReset ls 0 ps (λ i b p. refl)
 noted-is HardWasReset ls ps = from-all afterHardReset HardWasReset ls 0 ps (λ i b p. refl)

@@ -95,6 +95,7 @@ abbrev pub notedOne : Notice → ℕ → Bool → Pending → Pending
 notedOne Notice.Quiet i lost p = p
 notedOne (Notice.Reported n b) i lost p = cond (eqb i n) (without b p) p
 notedOne (Notice.OthersLost n) i lost p = cond (not (eqb i n) && lost) (afterCleared p) p
+notedOne (Notice.ReportedAndOthersLost n b) i lost p = cond (eqb i n) (without b p) (cond lost (afterCleared p) p)
 notedOne (Notice.NexusLost n) i lost p = cond (eqb i n) (afterNexusLoss p) p
 notedOne Notice.UnitWasReset i lost p = afterUnitReset p
 notedOne Notice.HardWasReset i lost p = afterHardReset p

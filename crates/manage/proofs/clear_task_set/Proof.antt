@@ -7,4 +7,4 @@ clear-task-set-spec =
     tie.close
     (tie.spec
     (λ c κs. search needs)
-    (λ c. simp (c .told-without-tas .ensures)))
+    (λ c. simp (c .tell .ensures)))

@@ -9,5 +9,5 @@ checks-past-aca-spec =
     tie.close
     (tie.spec
     (λ c κs. search needs) (λ c. search needs) (λ c κs. search needs) (λ c κs. search needs) (λ c. search needs) (λ c κs. search needs)
-    (λ c. simp (c .check-condition .ensures, c .before .sense-for .ensures, c .before .before .before .top .given .1, ← c .before .before .before .before .before .bit-if .ensures))
+    (λ c. simp (c .failed .ensures, c .before .sense-for .ensures, c .before .before .before .top .given .1, ← c .before .before .before .before .before .bit-if .ensures))
     (λ c. simp (c .last-checks .ensures, c .before .enum-told .given .1, ← c .before .before .before .bit-if .ensures)))

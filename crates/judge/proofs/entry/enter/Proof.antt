@@ -11,7 +11,7 @@ enter-spec =
     tie.close
     (tie.spec
     (λ c κs. search needs) (λ c κs. search needs)
-    (λ c. simp (c .check-condition .ensures, c .before .sense .ensures, c .before .before .if1 .taken))
+    (λ c. simp (c .failed .ensures, c .before .sense .ensures, c .before .before .if1 .taken))
     (λ c κs. search needs) (λ c κs. search needs) (λ c κs. search needs) (λ c κs. search needs)
     (λ c.
     let a = c .before .before .before .before .before .before .args in

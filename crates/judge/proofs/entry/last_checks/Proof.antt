@@ -9,7 +9,7 @@ last-checks-spec =
     tie.close
     (tie.spec
     (λ c κs. search needs) (λ c κs. search needs) (λ c κs. search needs)
-    (λ c. simp (c .sweeping-by .ensures, c .before .sense .ensures, c .before .before .if1 .taken, ← c .before .before .before .bad-attribute .ensures))
+    (λ c. simp (c .failed .ensures, c .before .sense .ensures, c .before .before .if1 .taken, ← c .before .before .before .bad-attribute .ensures))
     (λ c κs. search needs) (λ c κs. search needs)
     (λ c. simp (c .ended-with .ensures, c .before .if2 .taken, ← c .before .before .is-full .ensures, c .before .before .before .if1 .left, ← c .before .before .before .before .bad-attribute .ensures))
     (λ c κs. search needs)
