@@ -14,3 +14,4 @@ pub mod Witness
 pub mod Overtaking
 pub mod Stepped
 pub mod TurnsToHave
+pub mod AtEntry

@@ -1,8 +1,8 @@
 -- The mission's accident over bytes, and that whom name names can be completed: on every table, whatever calls led to it.
-use Prim.Native.Nat.{ℕ, zero, suc, _+_, _-_, _≤_, _<_}
-use mathlib.Core.Bool.{Bool, true, false, _&&_, not, and-true as and-on}
+use Prim.Native.Nat.{ℕ, suc, _+_, _-_, _≤_, _<_}
+use mathlib.Core.Bool.{true, false, _&&_, not, and-true as and-on}
 use mathlib.Core.Path.{_≡_, refl, ap, sym, subst, _∙_}
-use mathlib.Core.List.{List, [], _∷_}
+use mathlib.Core.List.{List}
 use mathlib.Core.Logic.{_⊎_, inl, inr}
 use native.Mathlib.Omega.{arith}
 use lib.ListN.{length, getD, take, drop, length-drop}
@@ -10,8 +10,7 @@ use lib.Seq.{split-at, getD-drop}
 use borrow.Author.Tests.{eq-eqb, not-false, ltb-true, ltb-false}
 use lib.Dec.{ltb}
 use Rattle.laws.specs.Lists.{any}
-use Rattle.laws.proofs.RecordsInLists.{record-byte, walked-at}
-use Rattle.laws.proofs.Bools.{and-false, or-false, not-both, split}
+use Rattle.laws.proofs.Bools.{and-false, not-both, split}
 use Rattle.octets.specs.Sizes.{acaOffset}
 use Rattle.rules.specs.Tasks.{nexuses, isPlain, same, enabledTask, enabledPlain, isNamed}
 use Rattle.rules.specs.Rulings.{State, turn}
@@ -22,43 +21,21 @@ use Rattle.rules.proofs.Order.{isBarrier, no-overtaking}
 use Rattle.rules.proofs.TurnRule.{named-completes, somebody-named}
 use Rattle.rules.proofs.Refusals.{nexus-says}
 use Rattle.records.specs.Numbers.{attributeFrom}
-use Rattle.records.specs.Records.{headSize, taskSize, taskFrom}
-use Rattle.records.specs.Tables.{reportSize, countIn, tasksAt, tasksFrom, stateOf, GoodTable}
+use Rattle.records.specs.Tables.{reportSize, countIn, stateOf, GoodTable}
 use Rattle.records.specs.Events.{eventBytes}
 use Rattle.records.proofs.GoodSays.{good-table-says}
 use Rattle.records.proofs.EventsSay.{event-bytes-back}
 use Rattle.history.specs.History.{nobody, isDone}
 use Rattle.operations.specs.Operations.{named}
 use Rattle.operations.proofs.Names.{named-good}
-use Rattle.rules.specs.Types.{Task, Finish, Event, Command, Completion, Management, Condition, Clear, Done, Named, Turn, Nothing, Names}
+use Rattle.rules.specs.Types.{Task, Finish, Event, Command, Completion, Management, Condition, Done, Named, Turn, Nothing, Names}
 use Rattle.records.specs.declared.events.EventRead.{the-variants.Readable}
 use Rattle.numbers.specs.declared.NamedTurn.{NamedTurn}
 use Rattle.numbers.specs.Boundary.{turnInNumbers, turnFor}
 use Rattle.demands.specs.Seen.{kindOf, eventName, recordName, taskAt, attributeAt}
 use Rattle.demands.specs.Demands.{number, Reaches}
-use Rattle.demands.proofs.Reading.{event-reads}
+use Rattle.demands.proofs.Reading.{event-reads, any-at, count-is, task-is, clear-is}
 use Rattle.demands.proofs.Refused.{reason, reached, demand1}
-
--- Places of the table ------------------------------------------------------------------------------------------------------------------------
-
-length-from : (n : ℕ) (l : List ℕ) → length (tasksFrom n l) ≡ n
-unfolding tasksFrom
-length-from zero l = refl
-length-from (suc n) l = ap suc (length-from n (drop taskSize l))
-
-any-at : (p : Task → Bool) (ts : List Task) (i : ℕ) → any p ts ≡ false → i < length ts → p (getD ts i nobody) ≡ false
-any-at p [] i e h = absurd (omega arith)
-any-at p (t ∷ ts) zero e h = or-false (p t) (any p ts) e .0
-any-at p (t ∷ ts) (suc i) e h = any-at p ts i (or-false (p t) (any p ts) e .1) (omega arith)
-
-module _ (t : List ℕ) where
-  count-is : length ((stateOf t) .tasks) ≡ countIn t
-  unfolding stateOf
-  count-is = length-from (countIn t) (drop tasksAt t)
-
-  task-is : (i : ℕ) → i < countIn t → getD ((stateOf t) .tasks) i nobody ≡ taskFrom (taskAt t i)
-  unfolding stateOf tasksFrom
-  task-is i h = walked-at taskSize taskFrom tasksFrom (λ n l. refl) (countIn t) i t tasksAt nobody h
 
 -- behind a HEAD OF QUEUE or ORDERED task no SIMPLE or ORDERED one is enabled
 overtakes :
@@ -70,7 +47,7 @@ overtakes s i j w l h e b =
     let there : getD (drop (suc j) ts) (i - suc j) nobody ≡ getD ts i nobody =
     getD-drop (suc j) ts (i - suc j) nobody ∙ ap (λ k. getD ts k nobody) (let z : suc j + (i - suc j) ≡ i = omega arith in z)
     in
-    not-both e (ap enabledPlain (sym there) ∙ any-at enabledPlain (drop (suc j) ts) (i - suc j) none (simp length-drop (omega arith)))
+    not-both e (ap enabledPlain (sym there) ∙ any-at enabledPlain nobody (drop (suc j) ts) (i - suc j) none (simp length-drop (omega arith)))
 
 -- The accident -------------------------------------------------------------------------------------------------------------------------------
 
@@ -104,7 +81,7 @@ module _ (t r e : List ℕ) (done : number t r e ≡ 0) (completes : kindOf e �
       in
       not-false _
       (and-false _ (not (enabledTask u))
-      (any-at (λ (u : Task). same (eventName e .nexus) (eventName e .tag) u && not (enabledTask u)) ((stateOf t) .tasks) i (not-waiting v h)
+      (any-at (λ (u : Task). same (eventName e .nexus) (eventName e .tag) u && not (enabledTask u)) nobody ((stateOf t) .tasks) i (not-waiting v h)
       (omega (arith, count-is t)))
       here)
 
@@ -165,10 +142,6 @@ module _ (t : List ℕ) (good : GoodTable t) where
       (sym turn-is)
       (done-by r f l (turn (stateOf t)) refl)
 
-  clear-is : getD t acaOffset 0 ≡ 0 → (stateOf t) .header .aca ≡ Clear
-  unfolding stateOf
-  clear-is c = rw (record-byte headSize t 0 5 0 (omega arith), (let z : getD t (0 + 5) 0 ≡ 0 = c in z))
-
   -- without ACA a table with tasks names somebody
   pub somebody-is-named : getD t acaOffset 0 ≡ 0 → 1 ≤ countIn t → (turnFor (named t)) .found ≡ true
   somebody-is-named c n = ap (λ (u : NamedTurn). u .found) turn-is ∙ go (turn (stateOf t)) refl
@@ -176,7 +149,7 @@ module _ (t : List ℕ) (good : GoodTable t) where
       go : (u : Turn) → turn (stateOf t) ≡ u → (turnInNumbers Done u) .found ≡ true
       go Nothing e =
           absurd
-          (somebody-named (stateOf t) (good .well) (clear-is c)
+          (somebody-named (stateOf t) (good .well) (clear-is t c)
           (λ z. omega (arith, count-is t, ap length z))
           e)
       go (Names x) e = refl

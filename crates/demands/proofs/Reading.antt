@@ -1,5 +1,5 @@
 -- What bytes say of the event, the report and the table that they write: kinds and names.
-use Prim.Native.Nat.{ℕ, zero, suc}
+use Prim.Native.Nat.{ℕ, zero, suc, _+_, _<_}
 use mathlib.Core.Bool.{Bool, false, _||_, not}
 use mathlib.Core.Path.{_≡_, refl, ap, sym, _∙_}
 use mathlib.Core.List.{List, [], _∷_, _++_, map}
@@ -7,27 +7,30 @@ use native.Mathlib.Omega.{arith}
 use lib.Dec.{eqb}
 use lib.ListN.{length, getD, take, drop, replicate}
 use borrow.Author.Tests.{eqb-true}
-use Rattle.laws.specs.Lists.{one-if, count}
-use Rattle.laws.specs.RecordsInLists.{joined}
+use Rattle.laws.specs.Lists.{one-if, any, count}
+use Rattle.laws.specs.RecordsInLists.{recordAt, joined}
+use Rattle.laws.proofs.RecordsInLists.{record-byte, walked-at}
 use Rattle.laws.proofs.Bools.{or-false, cases}
-use Rattle.octets.specs.Sizes.{firstOffset, tagOffset, attributeOffset}
+use Rattle.octets.specs.Sizes.{policyOffset, acaOffset, firstOffset, secondOffset, tagOffset, attributeOffset}
 use Rattle.rules.specs.Tasks.{isHead}
 use Rattle.rules.specs.Rulings.{State, taskName, endedName}
 use Rattle.rules.specs.Rules.{attributeOf, newTask}
 use Rattle.rules.proofs.NewTasks.{new-task-attribute}
 use Rattle.rules.proofs.WellKept.{Tested}
-use Rattle.records.specs.Numbers.{attributeNumber, attributeFits, attributeFrom, tagIn, tagBytes}
-use Rattle.records.specs.Records.{taskSize, endedBytes}
+use Rattle.records.specs.Numbers.{attributeNumber, attributeFits, attributeFrom, acaNumber, acaFrom, policyFrom, tagIn, tagBytes}
+use Rattle.records.specs.Records.{headSize, taskSize, taskFrom, endedBytes}
 use Rattle.records.specs.Tables.{tasksAt, countIn, tasksFrom, stateOf, tableBytes, reportBytes}
-use Rattle.records.specs.Events.{eventOf, askedNumber, SpareAttribute}
-use Rattle.records.proofs.Values.{attribute-back}
+use Rattle.records.specs.Events.{eventOf, askedNumber, secondNumber, SpareAttribute}
+use Rattle.records.proofs.Values.{attribute-back, aca-good}
+use Rattle.records.proofs.Good.{length-tasks-from}
+use Rattle.history.specs.History.{nobody}
 use Rattle.history.specs.Waits.{headsAmong, othersAmong}
 use Rattle.octets.proofs.Tags.{tag-back}
 use Rattle.records.proofs.ReadBack.{state-back-again}
 use Rattle.records.proofs.EventsSay.{event-fields}
-use Rattle.rules.specs.Types.{Attribute, Task, Asked, Known, NoneOfFour, Entry, Command, Completion, Management, Condition, Ended, Named}
+use Rattle.rules.specs.Types.{Attribute, Task, Asked, Known, NoneOfFour, Entry, Command, Completion, Management, Condition, Clear, Ended, Named}
 use Rattle.records.specs.declared.events.EventRead.{EventRead, the-variants.Readable, the-variants.Unreadable}
-use Rattle.demands.specs.Seen.{kindOf, eventName, namesFrom, attributesFrom, headsIn, othersIn, presentIn}
+use Rattle.demands.specs.Seen.{kindOf, eventName, namesFrom, taskAt, attributesFrom, headsIn, othersIn, presentIn}
 
 -- Events -----------------------------------------------------------------------------------------------------------------------------------
 
@@ -66,6 +69,10 @@ module _ (e : List ℕ) where
   event-reads (Readable (Management n f)) q = field 2 (event-fields e (Management n f) q .1)
   event-reads (Readable (Condition h)) q = field 2 (event-fields e (Condition h) q .1)
 
+  -- NACA and exempt, of a command
+  pub second-asked : (c : Entry) → eventOf e ≡ Readable (Command c) → getD e secondOffset 0 ≡ secondNumber c
+  second-asked c q = field 5 (event-fields e (Command c) q .1)
+
   -- the byte of a known attribute
   pub known-asked : (c : Entry) (t : Attribute) → eventOf e ≡ Readable (Command c) → c .asked ≡ Known t → getD e firstOffset 0 ≡ attributeNumber t
   known-asked c t q z = field 4 (event-fields e (Command c) q .1) ∙ ap (askedNumber (getD e firstOffset 0)) z
@@ -91,6 +98,38 @@ unfolding reportBytes
 report-names es = names-back es _
 
 -- Tables -----------------------------------------------------------------------------------------------------------------------------------
+
+pub any-at : {A : Type 0} (p : A → Bool) (d : A) (xs : List A) (i : ℕ) → any p xs ≡ false → i < length xs → p (getD xs i d) ≡ false
+any-at p d [] i e h = absurd (omega arith)
+any-at p d (x ∷ xs) zero e h = or-false (p x) (any p xs) e .0
+any-at p d (x ∷ xs) (suc i) e h = any-at p d xs i (or-false (p x) (any p xs) e .1) (omega arith)
+
+module _ (b : List ℕ) where
+  pub count-is : length ((stateOf b) .tasks) ≡ countIn b
+  unfolding stateOf
+  count-is = length-tasks-from (countIn b) (drop tasksAt b)
+
+  pub task-is : (i : ℕ) → i < countIn b → getD ((stateOf b) .tasks) i nobody ≡ taskFrom (taskAt b i)
+  unfolding stateOf tasksFrom
+  task-is i h = walked-at taskSize taskFrom tasksFrom (λ n l. refl) (countIn b) i b tasksAt nobody h
+
+  -- a byte of the header
+  head-is : (i : ℕ) → i < headSize → getD (recordAt headSize b 0) i 0 ≡ getD b i 0
+  head-is i h = record-byte headSize b 0 i 0 h ∙ ap (λ k. getD b k 0) (let z : 0 + i ≡ i = omega arith in z)
+
+  aca-is : (stateOf b) .header .aca ≡ acaFrom (getD b acaOffset 0)
+  unfolding stateOf
+  aca-is = ap acaFrom (head-is acaOffset (omega arith))
+
+  pub aca-byte : getD b acaOffset 0 ≡ acaNumber ((stateOf b) .header .aca)
+  aca-byte = sym (ap acaNumber aca-is ∙ aca-good (getD b acaOffset 0))
+
+  pub clear-is : getD b acaOffset 0 ≡ 0 → (stateOf b) .header .aca ≡ Clear
+  clear-is z = aca-is ∙ ap acaFrom z
+
+  pub policy-is : (stateOf b) .header .policy ≡ policyFrom (getD b policyOffset 0)
+  unfolding stateOf
+  policy-is = ap policyFrom (head-is policyOffset (omega arith))
 
 task-names : (n : ℕ) (l : List ℕ) → namesFrom n l ≡ map taskName (tasksFrom n l)
 unfolding tasksFrom

@@ -24,7 +24,7 @@ use Rattle.operations.proofs.Starts.{no-room, no-policy, begun, started-cases}
 use Rattle.operations.proofs.Names.{named-bad, named-good}
 use Rattle.operations.proofs.Answered.{numberOf}
 use Rattle.operations.proofs.Buffers.{outcome-unchanged, outcome-emptied}
-use Rattle.operations.specs.Operations.{Outcome, named}
+use Rattle.operations.specs.Operations.{Outcome, carried, outcome, named}
 use Rattle.rules.specs.Types.{Event, Answer, Done, BadTable, BadReport, BadEvent, NexusAboveSeven, NoSuchTask, NotEnabled, EndedAtEntry, Rejected, BadPolicy, Turn, Nothing, Names}
 use Rattle.records.specs.declared.events.EventRead.{the-variants.Readable, the-variants.Unreadable}
 use Rattle.numbers.specs.Boundary.{turnInNumbers, turnFor, startNumber}
@@ -88,10 +88,14 @@ module _ (t r e : List ℕ) where
   at-most-eight (suc (suc (suc (suc (suc (suc (suc (suc zero)))))))) q = omega arith
   at-most-eight (suc (suc (suc (suc (suc (suc (suc (suc (suc n))))))))) q = absurd q
 
+  -- what the rules say is carried out
+  pub carried-out : (v : Event) → Reaches t r e v → outcome t r e ≡ carried t r (stateOf t) (ruling (stateOf t) v)
+  carried-out v h = ruled-on t r e (good-table-says t .1 (h .table)) (h .report) v (h .event)
+
   -- what the rules answer is the number
   pub reached : (v : Event) → Reaches t r e v → (a : Answer) → answer (stateOf t) v ≡ a → number t r e ≡ numberOf a
   reached v h a q =
-      ap (λ (o : Outcome). numberOf (o .answer)) (ruled-on t r e (good-table-says t .1 (h .table)) (h .report) v (h .event))
+      ap (λ (o : Outcome). numberOf (o .answer)) (carried-out v h)
       ∙ ap numberOf (sym (answer-ruled (stateOf t) v) ∙ q)
 
 -- Start and name --------------------------------------------------------------------------------------------------------------------------------

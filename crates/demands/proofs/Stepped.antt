@@ -15,13 +15,12 @@ use Rattle.rules.proofs.Attentions.{bits-after}
 use Rattle.records.specs.Numbers.{pendingFrom}
 use Rattle.records.specs.Records.{nexusSize, pendingIn}
 use Rattle.records.specs.Tables.{nexusesAt, pendingsFrom, stateOf}
-use Rattle.records.proofs.GoodSays.{good-table-says}
 use Rattle.operations.specs.Operations.{Outcome, outcome}
-use Rattle.operations.proofs.Looked.{ruled-on}
 use Rattle.operations.proofs.Carried.{table-after-says}
 use Rattle.rules.specs.Types.{Bit, Event}
 use Rattle.demands.specs.Seen.{pendingByte}
 use Rattle.demands.specs.Demands.{Reaches}
+use Rattle.demands.proofs.Refused.{carried-out}
 
 pending-is : (b : List ℕ) (i : ℕ) → i < nexuses → pendingOf (stateOf b) i ≡ pendingFrom (pendingByte b i)
 unfolding stateOf pendingsFrom
@@ -31,7 +30,7 @@ module _ (t r e : List ℕ) (v : Event) (reaches : Reaches t r e v) where
   -- what the table says after a call is what the rules say
   pub one-step : stateOf ((outcome t r e) .table) ≡ step (stateOf t) v
   one-step =
-      ap (λ (o : Outcome). stateOf (o .table)) (ruled-on t r e (good-table-says t .1 (reaches .table)) (reaches .report) v (reaches .event))
+      ap (λ (o : Outcome). stateOf (o .table)) (carried-out t r e v reaches)
       ∙ table-after-says t (ruling (stateOf t) v) (tested-ruling (stateOf t) v (says-tested (stateOf t) (reaches .table .well)))
       ∙ sym (step-ruled (stateOf t) v)
 
