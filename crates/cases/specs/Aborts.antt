@@ -50,23 +50,22 @@ clearTaskSetTas =
     (table (header 0x04 0 0 0) (bits 0 0 1 0 0 0 0 0) []) (listing (endedRecord 0 0xFF 1 ∷ endedRecord 1 0x40 1 ∷ endedRecord 2 0x40 1 ∷ []))
     ∷ [])
 
--- RULES 4.4: under TAS 1 ABORT TASK, ABORT TASK SET, overlap, nexus loss and logical unit reset give FFh, and nobody gets bit 4. RULES 7.6: ABORT TASK of an
--- absent task.
+-- RULES 4.4: under TAS 1 ABORT TASK, ABORT TASK SET, nexus loss and logical unit reset give FFh, and nobody gets bit 4; and so does overlap, here with QERR
+-- 00b, since 01b has the others aborted too (RULES 5.16). RULES 7.6: ABORT TASK of an absent task.
 abbrev pub otherAborts : Case
 otherAborts =
     from
-    (table (header 0x05 5 0 0) quiet
-    (task 0 simple enabled 0 1 ∷ task 1 simple enabled 0 1 ∷ task 2 simple enabled 0 1 ∷ task 3 simple enabled 0 1 ∷ task 4 simple enabled 0 1 ∷ []))
+    (table (header 0x05 4 0 0) quiet (task 0 simple enabled 0 1 ∷ task 1 simple enabled 0 1 ∷ task 3 simple enabled 0 1 ∷ task 4 simple enabled 0 1 ∷ []))
     (does (management 0 1 1) (answerLine 0 0 0 0 0 1)
-    (table (header 0x05 4 0 0) quiet (task 1 simple enabled 0 1 ∷ task 2 simple enabled 0 1 ∷ task 3 simple enabled 0 1 ∷ task 4 simple enabled 0 1 ∷ []))
+    (table (header 0x05 3 0 0) quiet (task 1 simple enabled 0 1 ∷ task 3 simple enabled 0 1 ∷ task 4 simple enabled 0 1 ∷ []))
     (listing (endedRecord 0 0xFF 1 ∷ []))
     ∷ keeps (management 0 1 1) (answerLine 0 0 0 0 0 0)
     ∷ does (management 1 2 0) (answerLine 0 0 0 0 0 1)
-    (table (header 0x05 3 0 0) quiet (task 2 simple enabled 0 1 ∷ task 3 simple enabled 0 1 ∷ task 4 simple enabled 0 1 ∷ []))
-    (listing (endedRecord 1 0xFF 1 ∷ []))
-    ∷ does (command 2 simple 0 1) (answerLine 7 0x02 0x0B 0x4E 0x00 1)
-    (table (header 0x05 2 0 0) quiet (task 3 simple enabled 0 1 ∷ task 4 simple enabled 0 1 ∷ [])) (listing (endedRecord 2 0xFF 1 ∷ []))
+    (table (header 0x05 2 0 0) quiet (task 3 simple enabled 0 1 ∷ task 4 simple enabled 0 1 ∷ [])) (listing (endedRecord 1 0xFF 1 ∷ []))
     ∷ does (condition 3 3) (answerLine 0 0 0 0 0 1)
     (table (header 0x05 1 0 0) (bits 0 0 0 8 0 0 0 0) (task 4 simple enabled 0 1 ∷ [])) (listing (endedRecord 3 0xFF 1 ∷ []))
     ∷ does (management 0 5 0) (answerLine 0 0 0 0 0 1) (table (header 0x05 0 0 0) (bits 4 4 4 4 4 4 4 4) []) (listing (endedRecord 4 0xFF 1 ∷ []))
+    ∷ lend (table (header 0x04 2 0 0) quiet (task 2 simple enabled 0 1 ∷ task 3 simple enabled 0 1 ∷ []))
+    ∷ does (command 2 simple 0 1) (answerLine 7 0x02 0x0B 0x4E 0x00 1)
+    (table (header 0x04 1 0 0) quiet (task 3 simple enabled 0 1 ∷ [])) (listing (endedRecord 2 0xFF 1 ∷ []))
     ∷ [])

@@ -1,5 +1,6 @@
 -- RULES 5: entry of a command.
-use mathlib.Core.List.{[], _∷_}
+use Prim.Native.Nat.{ℕ}
+use mathlib.Core.List.{List, [], _∷_}
 use Rattle.cases.specs.Makers.{simple, headOfQueue, ordered, aca, dormant, enabled, blocked, header, task, endedRecord, command, bits, quiet, table, listing}
 use Rattle.cases.specs.Shorthand.{answerLine, does, enters, keeps, from}
 use Rattle.cases.specs.Play.{lend, Case}
@@ -28,14 +29,23 @@ overlapSettles =
     (table (header 0x00 1 0 0) quiet (task 1 simple enabled 0 1 ∷ [])) (listing (endedRecord 0 0xFF 1 ∷ endedRecord 0 0xFF 2 ∷ []))
     ∷ [])
 
--- RULES 5.1: QERR 01b and NACA 1; 1.1 stays. RULES 16.1: the attribute is any byte, 03h, FFh.
-abbrev pub entrySetsUpNoAca : Case
-entrySetsUpNoAca =
-    from (table (header 0x01 2 0 0) quiet (task 0 simple enabled 0 1 ∷ task 1 simple enabled 0 1 ∷ []))
-    (keeps (command 2 3 1 1) (answerLine 7 0x02 0x05 0x49 0x00 0)
-    ∷ keeps (command 2 0xFF 1 1) (answerLine 7 0x02 0x05 0x49 0x00 0)
-    ∷ does (command 0 simple 1 1) (answerLine 7 0x02 0x0B 0x4E 0x00 1)
-    (table (header 0x01 1 0 0) quiet (task 1 simple enabled 0 1 ∷ [])) (listing (endedRecord 0 0xFF 1 ∷ []))
+-- two tasks, QERR 01b
+abbrev twoQerrAll : List ℕ
+twoQerrAll = table (header 0x01 2 0 0) quiet (task 0 simple enabled 0 1 ∷ task 1 simple enabled 0 1 ∷ [])
+
+-- RULES 5.16 and 5.17: QERR 01b and NACA 1; both end, and the ACA is the command's nexus's. Until request 2 this case said the opposite: nobody but 0.1 ends, and
+-- there is no ACA. RULES 16.1: the attribute is any byte, 03h, FFh.
+abbrev pub entrySetsUpAca : Case
+entrySetsUpAca =
+    from twoQerrAll
+    (does (command 2 3 1 1) (answerLine 7 0x02 0x05 0x49 0x00 2)
+    (table (header 0x01 0 3 0) (bits 0x10 0x10 0 0 0 0 0 0) []) (listing (endedRecord 0 0xFF 1 ∷ endedRecord 1 0xFF 1 ∷ []))
+    ∷ lend twoQerrAll
+    ∷ does (command 2 0xFF 1 1) (answerLine 7 0x02 0x05 0x49 0x00 2)
+    (table (header 0x01 0 3 0) (bits 0x10 0x10 0 0 0 0 0 0) []) (listing (endedRecord 0 0xFF 1 ∷ endedRecord 1 0xFF 1 ∷ []))
+    ∷ lend twoQerrAll
+    ∷ does (command 0 simple 1 1) (answerLine 7 0x02 0x0B 0x4E 0x00 2)
+    (table (header 0x01 0 1 0) (bits 0 0x10 0 0 0 0 0 0) []) (listing (endedRecord 0 0xFF 1 ∷ endedRecord 1 0xFF 1 ∷ []))
     ∷ [])
 
 -- RULES 5.7: the bit stays; check 4 and, in an ACA, check 2 hold. RULES 1.8: of the second byte NACA alone is in the control byte.

@@ -37,14 +37,15 @@ abortTaskSetInAca =
     ∷ keeps (command 1 simple 0 2) (answerLine 7 0x08 0 0 0 0)
     ∷ [])
 
--- RULES 4.7: QERR 01b aborts 0.2 and 1.1; the next command of nexus 0 enters, that of nexus 1 is told
+-- RULES 4.7: QERR 01b aborts 0.2 and 1.1; the next command of nexus 0 enters, that of nexus 1 is told, and so aborts 0.3 (RULES 5.16)
 abbrev pub causingNexus : Case
 causingNexus =
     from (table (header 0x01 3 0 0) quiet (task 0 simple enabled 0 1 ∷ task 0 simple enabled 0 2 ∷ task 1 simple enabled 0 1 ∷ []))
     (does (completion 0 0x02 1) (answerLine 0 0 0 0 0 3)
     (table (header 0x01 0 0 0) (bits 0 0x10 0 0 0 0 0 0) []) (listing (endedRecord 0 0x02 1 ∷ endedRecord 0 0xFF 2 ∷ endedRecord 1 0xFF 1 ∷ []))
     ∷ enters (command 0 simple 0 3) (table (header 0x01 1 0 0) (bits 0 0x10 0 0 0 0 0 0) (task 0 simple enabled 0 3 ∷ []))
-    ∷ does (command 1 simple 0 3) (answerLine 7 0x02 0x06 0x2F 0x00 0) (table (header 0x01 1 0 0) quiet (task 0 simple enabled 0 3 ∷ [])) (listing [])
+    ∷ does (command 1 simple 0 3) (answerLine 7 0x02 0x06 0x2F 0x00 1) (table (header 0x01 0 0 0) (bits 0x10 0 0 0 0 0 0 0) [])
+    (listing (endedRecord 0 0xFF 3 ∷ []))
     ∷ [])
 
 -- RULES 2.11: of 0.1, 1.1 and then 2.1 H the oldest has the turn each time

@@ -8,6 +8,7 @@ pub mod Errors
 pub mod Turns
 pub mod Answers
 pub mod Entries
+pub mod EndsAtEntry
 pub mod Allegiances
 pub mod Aborts
 pub mod Resets

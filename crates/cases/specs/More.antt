@@ -1,4 +1,4 @@
--- The cases that are not in RULES 26.2 to 26.10, J and K among them, each with the clause that it comes from; then all cases.
+-- The cases that are not in RULES 26.2 to 26.10 and 26.14, J and K among them, each with the clause that it comes from; then all cases.
 use mathlib.Core.List.{List, [], _∷_, _++_}
 use Rattle.cases.specs.Play.{Case}
 use Rattle.cases.specs.Begin.{cleared, tagOrder}
@@ -6,12 +6,16 @@ use Rattle.cases.specs.Errors.{dormantAsAcaBegins, youngerHead, abortTas
 use Rattle.cases.specs.Turns.{caseK, runStaysFour, orderedTurn, headOutOfTurn, failedTurn, turnInAca, orderedWaits, headWaits}
 use Rattle.cases.specs.Answers.{lowestIs1, lowestIs2, longReport, lowestIs3, lowestIs4, rejected, starting, namingNobody}
 use Rattle.cases.specs.Answers.{badHeads, badTasks, badWithoutAca, badInAca, unreachable, badEvents, eventLengths}
-use Rattle.cases.specs.Entries.{overlapFirst, overlapSettles, entrySetsUpNoAca, exempt, attributesInAca, rankOrder, bitsInAca, bitsBeforeAttribute}
+use Rattle.cases.specs.Entries.{overlapFirst, overlapSettles, entrySetsUpAca, exempt, attributesInAca, rankOrder, bitsInAca, bitsBeforeAttribute}
+use Rattle.cases.specs.EndsAtEntry.{overlapQerrNone, overlapQerrAll, overlapQerrNexus, bitQerrNone, bitQerrAll, bitQerrNexus}
+use Rattle.cases.specs.EndsAtEntry.{attributeQerrNone, attributeQerrAll, attributeQerrNexus, reportedBitStaysClear, hostsEndEachOther}
+use Rattle.cases.specs.EndsAtEntry.{dormantAsEntryBegins, acaOfRefused, overlapSparesOthersInAca, bitSparesAllInAca, busyAndActiveChangeNothing}
+use Rattle.cases.specs.EndsAtEntry.{entryLeavesRun}
 use Rattle.cases.specs.Allegiances.{acaBegins, acaTaskGood, acaTaskFails, acaTaskFailsAgain, onlyAcaTaskCompletes, abortTaskInAca}
 use Rattle.cases.specs.Allegiances.{clearTaskSetInAca, clearNoAca, clearAca, qerrEndsBlocked, qerrEndsDormant, qerrEndsNexusInAca}
 use Rattle.cases.specs.Aborts.{qerrNone, qerrAll, qerrNexus, clearTaskSet, clearTaskSetTas, otherAborts}
 use Rattle.cases.specs.Resets.{unitReset, hardReset, powerOn, faultedNexusLoss, otherNexusLoss}
-use Rattle.cases.specs.Full.{caseJ, fullInAca}
+use Rattle.cases.specs.Full.{caseJ, fullInAca, fullAsAcaBegins, fullQerrAll}
 use Rattle.cases.specs.Paper.{paper}
 
 abbrev pub more : List Case
@@ -48,12 +52,29 @@ more =
     ∷ eventLengths
     ∷ overlapFirst
     ∷ overlapSettles
-    ∷ entrySetsUpNoAca
+    ∷ entrySetsUpAca
     ∷ exempt
     ∷ attributesInAca
     ∷ rankOrder
     ∷ bitsInAca
     ∷ bitsBeforeAttribute
+    ∷ overlapQerrNone
+    ∷ overlapQerrAll
+    ∷ overlapQerrNexus
+    ∷ bitQerrNone
+    ∷ bitQerrAll
+    ∷ bitQerrNexus
+    ∷ attributeQerrNone
+    ∷ attributeQerrAll
+    ∷ attributeQerrNexus
+    ∷ reportedBitStaysClear
+    ∷ hostsEndEachOther
+    ∷ dormantAsEntryBegins
+    ∷ acaOfRefused
+    ∷ overlapSparesOthersInAca
+    ∷ bitSparesAllInAca
+    ∷ busyAndActiveChangeNothing
+    ∷ entryLeavesRun
     ∷ acaBegins
     ∷ acaTaskGood
     ∷ acaTaskFails
@@ -79,6 +100,8 @@ more =
     ∷ otherNexusLoss
     ∷ caseJ
     ∷ fullInAca
+    ∷ fullAsAcaBegins
+    ∷ fullQerrAll
     ∷ []
 
 abbrev pub cases : List Case

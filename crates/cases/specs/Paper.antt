@@ -1,5 +1,5 @@
--- RULES 26.1 to 26.10: cases A to I, and after each event all six numbers of the answer and every byte of the table and the report. 0.1 is nexus 0, tag 1;
--- pending bits are clear and the policy is 00h unless said.
+-- RULES 26.1 to 26.10 and 26.14: cases A to I and A's twin, and after each event all six numbers of the answer and every byte of the table and the report.
+-- 0.1 is nexus 0, tag 1; pending bits are clear and the policy is 00h unless said.
 use Prim.Native.Nat.{ℕ}
 use mathlib.Core.List.{List, [], _∷_, _++_}
 use Rattle.cases.specs.Makers.{simple, headOfQueue, ordered, aca, dormant, enabled}
@@ -15,6 +15,16 @@ caseA =
     ∷ does (command 2 simple 0 7) (answerLine 7 0x02 0x06 0x29 0x00 0) (table (header 0x00 0 0 0) (bits 1 1 0 1 1 1 1 1) []) (listing [])
     ∷ enters (command 2 simple 0 7) (table (header 0x00 1 0 0) (bits 1 1 0 1 1 1 1 1) (task 2 simple enabled 0 7 ∷ []))
     ∷ does (completion 2 0x00 7) (answerLine 0 0 0 0 0 1) (table (header 0x00 0 0 0) (bits 1 1 0 1 1 1 1 1) []) (listing (endedRecord 2 0x00 7 ∷ []))
+    ∷ [])
+
+-- RULES 26.14: with NACA 1 the ACA is nexus 2's, and the command is no task
+abbrev pub caseATwin : Case
+caseATwin =
+    from (junk tableLength)
+    (start 0x00 0 (now (table (header 0x00 0 0 0) (bits 1 1 1 1 1 1 1 1) []))
+    ∷ does (command 2 simple 1 7) (answerLine 7 0x02 0x06 0x29 0x00 0) (table (header 0x00 0 3 0) (bits 1 1 0 1 1 1 1 1) []) (listing [])
+    ∷ keeps (command 2 simple 1 7) (answerLine 7 0x30 0 0 0 0)
+    ∷ refuses (completion 2 0x00 7) 5
     ∷ [])
 
 -- RULES 26.3
@@ -134,4 +144,4 @@ caseI =
     ∷ [])
 
 abbrev pub paper : List Case
-paper = caseA ∷ caseB ∷ caseC ∷ caseD ∷ caseE ∷ caseF ∷ caseG ∷ caseH ∷ caseI ∷ []
+paper = caseA ∷ caseATwin ∷ caseB ∷ caseC ∷ caseD ∷ caseE ∷ caseF ∷ caseG ∷ caseH ∷ caseI ∷ []

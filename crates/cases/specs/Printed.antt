@@ -30,8 +30,9 @@ part i n bs = take n (drop i bs)
 abbrev tableOfA : List ℕ
 tableOfA = table (header 0x00 1 0 0) (bits 1 1 0 1 1 1 1 1) (task 2 simple enabled 0 7 ∷ [])
 
--- RULES 26.2, case A: its events, its records, its report; RULES 15.4: an unused record. Then RULES 15 and 16: the records' fields in their order, each with a
--- number of its own, and RULES 14.1: tags. Then RULES 14.2: the attributes, the states; and RULES 13: the lengths.
+-- RULES 26.2, case A: its events, its records, its report; RULES 15.4: an unused record; RULES 26.14, A's twin: its command, the header after it. Then RULES 15
+-- and 16: the records' fields in their order, each with a number of its own, and RULES 14.1: tags. Then RULES 14.2: the attributes, the states; and RULES 13: the
+-- lengths.
 abbrev pub printed : List Print
 printed =
     prints (command 2 simple 0 7) (0x54 ∷ 0x56 ∷ 0x01 ∷ 0x02 ∷ 0x00 ∷ 0x00 ∷ 0x00 ∷ 0x07 ∷ [])
@@ -41,6 +42,8 @@ printed =
     ∷ prints (part (taskPlace 0) taskWidth tableOfA) (0x54 ∷ 0x54 ∷ 0x02 ∷ 0x00 ∷ 0x02 ∷ 0x00 ∷ 0x00 ∷ 0x07 ∷ [])
     ∷ prints (part (taskPlace 63) taskWidth tableOfA) (0x54 ∷ 0x54 ∷ zeros 6)
     ∷ prints (listing (endedRecord 2 0x00 7 ∷ [])) (0x54 ∷ 0x45 ∷ 0x02 ∷ 0x00 ∷ 0x00 ∷ 0x00 ∷ 0x00 ∷ 0x07 ∷ zeros 504)
+    ∷ prints (command 2 simple 1 7) (0x54 ∷ 0x56 ∷ 0x01 ∷ 0x02 ∷ 0x00 ∷ 0x01 ∷ 0x00 ∷ 0x07 ∷ [])
+    ∷ prints (header 0x00 0 3 0) (0x54 ∷ 0x48 ∷ 0x01 ∷ 0x00 ∷ 0x00 ∷ 0x03 ∷ 0x00 ∷ 0x00 ∷ [])
     ∷ prints (header 0x02 3 4 5) (0x54 ∷ 0x48 ∷ 0x01 ∷ 0x02 ∷ 0x03 ∷ 0x04 ∷ 0x05 ∷ 0x00 ∷ [])
     ∷ prints (nexus 1 2 0) (0x54 ∷ 0x4E ∷ 0x01 ∷ 0x02 ∷ 0x00 ∷ 0x00 ∷ 0x00 ∷ 0x00 ∷ [])
     ∷ prints (task 1 2 3 4 0x0506) (0x54 ∷ 0x54 ∷ 0x01 ∷ 0x02 ∷ 0x03 ∷ 0x04 ∷ 0x05 ∷ 0x06 ∷ [])
