@@ -7,25 +7,26 @@ static struct dedakhumi_answer entry_status(uint8_t *report, uint8_t status)
 	return (struct dedakhumi_answer){ .answer = ANSWER_ENDED_AT_ENTRY, .status = status };
 }
 
-static struct dedakhumi_answer entry_sense(uint8_t *report, uint8_t key, uint8_t code, uint8_t qualifier)
-{
-	struct dedakhumi_answer answer = entry_status(report, STATUS_CHECK_CONDITION);
+struct sense {
+	uint8_t key, code, qualifier;
+};
 
-	answer.key = key;
-	answer.code = code;
-	answer.qualifier = qualifier;
-	return answer;
-}
-
-/* Check 1 */
-static struct dedakhumi_answer overlapped_command(uint8_t *table, uint8_t *report, uint8_t nexus)
+/* RULES 5.16 to 5.18: QERR besides what the check ends itself, then NACA; where an ACA is in effect, neither. */
+static struct dedakhumi_answer check_condition(uint8_t *table, uint8_t *report, const uint8_t *event, struct sense sense,
+	enum ending_scope scope)
 {
-	struct ending ending = { .named = NO_TASK, .scope = ENDS_NEXUS, .causing_nexus = nexus };
+	struct ending ending = { .named = NO_TASK, .scope = scope, .causing_nexus = event[EVENT_NEXUS], .tells_others = true };
 	struct dedakhumi_answer answer = {
-		.answer = ANSWER_ENDED_AT_ENTRY, .status = STATUS_CHECK_CONDITION, .key = 0x0B, .code = 0x4E
+		.answer = ANSWER_ENDED_AT_ENTRY, .status = STATUS_CHECK_CONDITION,
+		.key = sense.key, .code = sense.code, .qualifier = sense.qualifier
 	};
+	bool acts = table[HEADER_ACA] == 0;
 
+	if (acts && second_qerr_scope(table[HEADER_POLICY]) > scope)
+		ending.scope = second_qerr_scope(table[HEADER_POLICY]);
 	answer.ended = second_end_tasks(table, report, &ending);
+	if (acts && (event[EVENT_SECOND] & CONTROL_NACA))
+		second_begin_aca(table, event[EVENT_NEXUS]);
 	second_enable_eligible(table);
 	return answer;
 }
@@ -43,22 +44,22 @@ static uint8_t aca_status(const uint8_t *table, const uint8_t *event)
 }
 
 /* Check 3: the lowest bit set has the highest rank. */
-static struct dedakhumi_answer unit_attention(uint8_t *pending, uint8_t *report)
+static struct sense take_unit_attention(uint8_t *pending)
 {
 	uint8_t highest = *pending & (uint8_t)-*pending;
 
 	*pending &= (uint8_t)~highest;
 	switch (highest) {
 	case PENDING_POWER_ON:
-		return entry_sense(report, 0x06, 0x29, 0x00);
+		return (struct sense){ 0x06, 0x29, 0x00 };
 	case PENDING_HARD_RESET:
-		return entry_sense(report, 0x06, 0x29, 0x02);
+		return (struct sense){ 0x06, 0x29, 0x02 };
 	case PENDING_LOGICAL_UNIT_RESET:
-		return entry_sense(report, 0x06, 0x29, 0x03);
+		return (struct sense){ 0x06, 0x29, 0x03 };
 	case PENDING_NEXUS_LOSS:
-		return entry_sense(report, 0x06, 0x29, 0x07);
+		return (struct sense){ 0x06, 0x29, 0x07 };
 	default:
-		return entry_sense(report, 0x06, 0x2F, 0x00);
+		return (struct sense){ 0x06, 0x2F, 0x00 };
 	}
 }
 
@@ -86,18 +87,19 @@ static struct dedakhumi_answer accept(uint8_t *table, uint8_t *report, const uin
 
 struct dedakhumi_answer second_command(uint8_t *table, uint8_t *report, const uint8_t *event)
 {
+	static const struct sense overlapped = { 0x0B, 0x4E, 0x00 }, bad_attribute = { 0x05, 0x49, 0x00 };
 	uint8_t *pending = table + nexus_offset(event[EVENT_NEXUS]) + NEXUS_PENDING;
 	uint8_t status;
 
 	if (second_find(table, event) != NO_TASK)
-		return overlapped_command(table, report, event[EVENT_NEXUS]);
+		return check_condition(table, report, event, overlapped, ENDS_NEXUS);
 	status = aca_status(table, event);
 	if (status != STATUS_GOOD)
 		return entry_status(report, status);
 	if (*pending != 0 && !(event[EVENT_SECOND] & COMMAND_EXEMPT))
-		return unit_attention(pending, report);
+		return check_condition(table, report, event, take_unit_attention(pending), ENDS_NO_OTHER);
 	if (!good_attribute(table, event[EVENT_FIRST]))
-		return entry_sense(report, 0x05, 0x49, 0x00);
+		return check_condition(table, report, event, bad_attribute, ENDS_NO_OTHER);
 	if (table[HEADER_COUNT] == TASK_LIMIT)
 		return entry_status(report, STATUS_TASK_SET_FULL);
 	return accept(table, report, event);

@@ -18,27 +18,13 @@ static void count_turn(uint8_t *table, size_t place)
 	}
 }
 
-static enum ending_scope qerr_scope(uint8_t policy)
-{
-	switch (policy & POLICY_QERR) {
-	case QERR_ALL:
-		return ENDS_ALL;
-	case QERR_NEXUS:
-		return ENDS_NEXUS;
-	default:
-		return ENDS_NO_OTHER;
-	}
-}
-
 /* NACA 1 sets up an ACA; NACA 0 on the ACA task clears the one that stands. */
 static void settle_aca(uint8_t *table, uint8_t nexus, uint8_t attribute, uint8_t control)
 {
-	if (control & CONTROL_NACA) {
-		table[HEADER_ACA] = nexus + 1;
-		second_block_enabled(table);
-	} else if (attribute == ACA) {
+	if (control & CONTROL_NACA)
+		second_begin_aca(table, nexus);
+	else if (attribute == ACA)
 		table[HEADER_ACA] = 0;
-	}
 }
 
 struct dedakhumi_answer second_completion(uint8_t *table, uint8_t *report, const uint8_t *event)
@@ -57,7 +43,7 @@ struct dedakhumi_answer second_completion(uint8_t *table, uint8_t *report, const
 	control = table[task_offset(ending.named) + TASK_CONTROL];
 	count_turn(table, ending.named);
 	if (event[EVENT_FIRST] == STATUS_CHECK_CONDITION)
-		ending.scope = qerr_scope(table[HEADER_POLICY]);
+		ending.scope = second_qerr_scope(table[HEADER_POLICY]);
 	ended = second_end_tasks(table, report, &ending);
 	if (event[EVENT_FIRST] == STATUS_CHECK_CONDITION)
 		settle_aca(table, event[EVENT_NEXUS], attribute, control);

@@ -8,6 +8,18 @@ static bool ends(const struct ending *ending, const uint8_t *task, size_t place)
 	return ending->scope == ENDS_NEXUS && task[TASK_NEXUS] == ending->causing_nexus;
 }
 
+enum ending_scope second_qerr_scope(uint8_t policy)
+{
+	switch (policy & POLICY_QERR) {
+	case QERR_ALL:
+		return ENDS_ALL;
+	case QERR_NEXUS:
+		return ENDS_NEXUS;
+	default:
+		return ENDS_NO_OTHER;
+	}
+}
+
 /* RULES 4.4: aborted tasks end with FFh, with one exception; 6.1 says who is told. */
 static uint8_t ending_status(uint8_t *table, const struct ending *ending, const uint8_t *task, size_t place)
 {
@@ -75,10 +87,11 @@ void second_enable_eligible(uint8_t *table)
 }
 
 /* RULES 2.8: enabled tasks become blocked, dormant ones stay dormant. */
-void second_block_enabled(uint8_t *table)
+void second_begin_aca(uint8_t *table, uint8_t nexus)
 {
 	size_t count = table[HEADER_COUNT];
 
+	table[HEADER_ACA] = nexus + 1;
 	for (size_t place = 0; place < count; place++) {
 		uint8_t *task = table + task_offset(place);
 

@@ -8,7 +8,7 @@
 /* A place in the table that stands for "no task". */
 #define NO_TASK ((size_t)TASK_LIMIT)
 
-/* Which tasks end besides the one that the event names. */
+/* Which tasks end besides the one that the event names; each scope holds the one before it. */
 enum ending_scope { ENDS_NO_OTHER, ENDS_NEXUS, ENDS_ALL };
 
 struct ending {
@@ -33,7 +33,10 @@ size_t second_turn(const uint8_t *table);
 /* Writes the report whole, closes the gaps, and gives the number of tasks ended. States are left to the two below. */
 uint8_t second_end_tasks(uint8_t *table, uint8_t *report, const struct ending *ending);
 void second_enable_eligible(uint8_t *table);
-void second_block_enabled(uint8_t *table);
+void second_begin_aca(uint8_t *table, uint8_t nexus);
+
+/* RULES 4.5: whom a CHECK CONDITION takes along, that of a task and that of a command ended at entry. */
+enum ending_scope second_qerr_scope(uint8_t policy);
 
 struct dedakhumi_answer second_command(uint8_t *table, uint8_t *report, const uint8_t *event);
 struct dedakhumi_answer second_completion(uint8_t *table, uint8_t *report, const uint8_t *event);

@@ -48,6 +48,12 @@ static void aim_at_task(uint64_t *random, const uint8_t *table, struct step *ste
 	memcpy(event + EVENT_TAG, task + TASK_TAG, TAG_LENGTH);
 }
 
+void event_overlapped_command(uint64_t *random, const uint8_t *table, struct step *step, struct range range)
+{
+	event_command(random, step, range, SIMPLE, 50);
+	aim_at_task(random, table, step, range);
+}
+
 void event_completion(uint64_t *random, const uint8_t *table, struct step *step, struct range range, uint8_t status)
 {
 	event_write(step, COMPLETION, 0, status, 0, 0);

@@ -12,7 +12,8 @@ struct range {
 
 void event_write(struct step *step, uint8_t kind, uint8_t nexus, uint8_t first, uint8_t second, tag_number tag);
 void event_command(uint64_t *random, struct step *step, struct range range, uint8_t attribute, unsigned exempt_percent);
-/* Of a task in the table as a rule, else of any in the range. */
+/* These three of a task in the table as a rule, else of any in the range. */
+void event_overlapped_command(uint64_t *random, const uint8_t *table, struct step *step, struct range range);
 void event_completion(uint64_t *random, const uint8_t *table, struct step *step, struct range range, uint8_t status);
 void event_abort_task(uint64_t *random, const uint8_t *table, struct step *step, struct range range);
 void event_management(uint64_t *random, struct step *step, struct range range);

@@ -149,6 +149,38 @@ static void next_aca(uint64_t *random, const uint8_t *table, struct step *step)
 		event_any(random, table, step, some_range);
 }
 
+/* By check 1, 3 or 4, where there is such a task, or a bit for that nexus. */
+static void refused_command(uint64_t *random, const uint8_t *table, struct step *step)
+{
+	switch (random_below(random, 3)) {
+	case 0:
+		event_overlapped_command(random, table, step, any_range);
+		break;
+	case 1:
+		event_command(random, step, any_range, entering_attribute(random, 60), 0);
+		break;
+	default:
+		event_command(random, step, any_range, (uint8_t)(random_percent(random, 50) ? ACA : random_below(random, 256)), 50);
+	}
+}
+
+/* A set grows until a command is refused, which may leave an ACA over 64 tasks; a full one needs no longer wait for that. */
+static void next_refused(uint64_t *random, const uint8_t *table, struct step *step)
+{
+	unsigned refused = table[HEADER_COUNT] == TASK_LIMIT ? 60 : 3;
+
+	if (cleared_aca(random, table, step, 25))
+		return;
+	if (table[HEADER_ACA] != 0)
+		command_under_aca(random, table, step);
+	else if (random_percent(random, refused))
+		refused_command(random, table, step);
+	else if (random_percent(random, 95))
+		event_command(random, step, any_range, entering_attribute(random, 60), 100);
+	else
+		event_any(random, table, step, any_range);
+}
+
 /* Resets, losses and CLEAR TASK SET among commands that are told of them. */
 static void next_pending(uint64_t *random, const uint8_t *table, struct step *step)
 {
@@ -189,6 +221,7 @@ const struct stream streams[STREAM_COUNT] = {
 	{ "full sets", next_full },
 	{ "turns", next_turn },
 	{ "ACA", next_aca },
+	{ "refused commands", next_refused },
 	{ "pending bits", next_pending },
 	{ "draining sets", next_draining }
 };

@@ -9,7 +9,7 @@ struct stream {
 	void (*next)(uint64_t *random, const uint8_t *table, struct step *step);
 };
 
-enum { STREAM_COUNT = 9 };
+enum { STREAM_COUNT = 10 };
 
 extern const struct stream streams[STREAM_COUNT];
 
