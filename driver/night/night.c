@@ -56,6 +56,7 @@ static bool play(void)
 	scene_resets(&world);
 	scene_damaged_table(&world);
 	scene_other_depots();
+	scene_refused_commands();
 	return sum_up(&world);
 }
 

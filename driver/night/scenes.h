@@ -23,5 +23,7 @@ void scene_driver_errors(struct world *world);
 void scene_damaged_table(const struct world *world);
 /* depots.c: boxes of other depots, with other policies */
 void scene_other_depots(void);
+/* refused.c: the same */
+void scene_refused_commands(void);
 
 #endif

@@ -8,6 +8,8 @@
 
 enum { SIMPLE = DEDAKHUMI_ATTRIBUTE_SIMPLE, HEAD_OF_QUEUE = DEDAKHUMI_ATTRIBUTE_HEAD_OF_QUEUE, ORDERED = DEDAKHUMI_ATTRIBUTE_ORDERED };
 enum { NACA = DEDAKHUMI_CONTROL_NACA, EXEMPT = DEDAKHUMI_CONTROL_EXEMPT };
+/* none of the four */
+enum { NO_ATTRIBUTE = 3 };
 /* of a disk's statuses that the box itself never sends */
 enum { RESERVATION_CONFLICT = 0x18 };
 
@@ -269,6 +271,45 @@ static void aborts_of_others(void)
 	check_answer(watch, "at its next command", command(watch, 1, 3, SIMPLE, 0), 7, "send 1.3 02h 6h/2Fh/00h; ");
 }
 
+/* An ACA begins though no task has ended, and the disk has two. */
+static void refused_command_blocks(void)
+{
+	struct watch *watch = begin(DEDAKHUMI_POLICY_QERR_NEXUS);
+	accepts(watch, 1, 2, SIMPLE, 0);
+	accepts(watch, 2, 2, SIMPLE, 0);
+	runs(watch, "both", 2, "run 1.2; run 2.2; ");
+	check_answer(watch, "no such attribute, and NACA", command(watch, 0, 2, NO_ATTRIBUTE, NACA), 7, "send 0.2 02h 5h/49h/00h; ");
+	check_number(watch, "the faulted nexus", dedakhumi_faulted_nexus(watch->box.port.table), 0);
+	check_number(watch, "nothing is kept for the command", count_requests(&watch->box.kept), 2);
+	check_answer(watch, "the disk goes on, and its end is held back", good(watch, 1, 2), 6, "");
+	check_answer(watch, "the other end too", good(watch, 2, 2), 6, "");
+	runs(watch, "as long as the ACA lasts", 0, "");
+	check_answer(watch, "it is cleared", function(watch, 0, DEDAKHUMI_FUNCTION_CLEAR_ACA), 0, "");
+	check_answer(watch, "an abort by QERR takes the place of a held back end", command(watch, 1, 3, NO_ATTRIBUTE, 0), 7,
+		"let go 1.2; send 1.3 02h 5h/49h/00h; ");
+	runs(watch, "the other end is given again", 0, "gives again; let go 2.2; send 2.2 00h; ");
+}
+
+/* The report of an answer 7 lists tasks of others, before the command's own status is sent. */
+static void refused_command_aborts(void)
+{
+	struct watch *watch = begin(DEDAKHUMI_POLICY_QERR_ALL);
+	accepts(watch, 1, 2, SIMPLE, 0);
+	accepts(watch, 0, 2, ORDERED, 0);
+	runs(watch, "the SIMPLE task", 1, "run 1.2; ");
+	check_answer(watch, "a refused command takes all with it", command(watch, 0, 3, NO_ATTRIBUTE, NACA), 7,
+		"let go 1.2 at the disk; let go 0.2; send 0.3 02h 5h/49h/00h; ");
+	check_number(watch, "the faulted nexus", dedakhumi_faulted_nexus(watch->box.port.table), 0);
+	check_number(watch, "nothing is left", count_requests(&watch->box.kept), 0);
+	check_number(watch, "the other is to hear of it", dedakhumi_pending_of(watch->box.port.table, 1), DEDAKHUMI_PENDING_COMMANDS_CLEARED);
+	watch = begin(DEDAKHUMI_POLICY_QERR_ALL | DEDAKHUMI_POLICY_TAS);
+	accepts(watch, 1, 2, SIMPLE, 0);
+	accepts(watch, 0, 2, SIMPLE, 0);
+	runs(watch, "both", 2, "run 1.2; run 0.2; ");
+	check_answer(watch, "with TAS the other hears at once, as it does of a tag used twice", command(watch, 0, 2, SIMPLE, 0), 7,
+		"let go 1.2 at the disk; send 1.2 40h; let go 0.2 at the disk; send 0.2 02h Bh/4Eh/00h; ");
+}
+
 static void full(void)
 {
 	struct watch *watch = begin(DEDAKHUMI_POLICY_QERR_NONE);
@@ -342,6 +383,8 @@ int main(int argument_count, char **arguments)
 	other_status_held_back();
 	aborts();
 	aborts_of_others();
+	refused_command_blocks();
+	refused_command_aborts();
 	full();
 	damaged_table();
 	mistakes();
