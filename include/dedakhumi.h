@@ -12,7 +12,8 @@
       among them, with the status for its host. FFh is sent to nobody. The disk has to let go of an aborted task, sent or not (below); then
       drop what was kept for it.
    4. A COMMAND answered 0 is a task now, and has ended nobody: keep its command block, found by nexus and tag. Answered 7 it is none: send
-      the answer's status and sense, and keep nothing. A MANAGEMENT answered 0 is FUNCTION COMPLETE, and 8 is FUNCTION REJECTED.
+      the answer's status and sense, and keep nothing. The report does not list it, but with CHECK CONDITION it may list tasks, of other
+      hosts too, so read it under 7 as under 0. A MANAGEMENT answered 0 is FUNCTION COMPLETE, and 8 is FUNCTION REJECTED.
    5. Call dedakhumi_name, run the task that it names, give its end as a COMPLETION, and so on. A driver may also run every task whose
       state is enabled, side by side: any of them may be completed. If another task is named while one runs, the one that runs goes on.
    6. The wait that is promised (RULES 23.5): a task accepted with another attribute than ACA while k older tasks were in the table has
@@ -37,12 +38,20 @@
    - After answer 1, of dedakhumi_name too, there is no table any more: let the disk let go of everything, start over with the policy kept
      beside the table, and give the event again if it was no completion. Each host will be told of a power on.
 
-   AN ACA (RULES 2.8 to 2.10, 5.3 to 5.10, 6.3)
-   - It begins with a COMPLETION of CHECK CONDITION of a task with NACA: that task's nexus is the faulted one. A command that ends at entry
-     with CHECK CONDITION begins none, and takes no other task along by QERR.
-   - Enabled tasks are blocked then, dormant ones stay so. One ACA task of the faulted nexus may enter at a time, after it was told the unit
-     attentions that wait for it, if it is not exempt. Every other command of that nexus gets ACA ACTIVE, and those of others get BUSY, or
-     ACA ACTIVE with NACA; what waits for them waits on. A tag that is in the table goes before all this (DEDAKHUMI_KIND_COMMAND).
+   A CHECK CONDITION AND OTHER TASKS (RULES 4.5 to 4.7, 5.16 to 5.20, 6.6)
+   - When a task completes with CHECK CONDITION, other tasks end by the policy's QERR, and then, with NACA, an ACA begins. When a command
+     ends at entry with CHECK CONDITION (its tag, a unit attention, its attribute) the same happens, unless an ACA is in effect: then
+     neither does. BUSY, TASK SET FULL and ACA ACTIVE have no such effect.
+   - So a host that sets NACA in every command may have an ACA from the first on, which is told of the power on, and has to clear it.
+   - Under QERR_ALL without TAS a host that is told of tasks that it lost ends those of others by that, and they are told in their turn.
+     Hosts that always have tasks in the box may go on so; with TAS nothing is left to be told.
+
+   AN ACA (RULES 2.8 to 2.10, 5.3 to 5.10, 5.13, 5.17, 6.3)
+   - It begins as above; the faulted nexus is that of the task, or of the command that ended at entry.
+   - Enabled tasks are blocked then, dormant ones stay so, also where the same event has ended what they waited for. One ACA task of the
+     faulted nexus may enter at a time, after it was told the unit attentions that wait for it, if it is not exempt; no place is kept for
+     it, so that 64 tasks keep it out. Every other command of that nexus gets ACA ACTIVE, and those of others get BUSY, or ACA ACTIVE with
+     NACA; what waits for them waits on. A tag that is in the table goes before all this (DEDAKHUMI_KIND_COMMAND).
    - It ends by CLEAR ACA of the faulted nexus, by CHECK CONDITION of the ACA task without NACA, by the loss of the faulted nexus, and by
      every reset; by no abort, and not by GOOD.
 
@@ -62,8 +71,8 @@
      blocks. It uses the red zone and SSE registers, which a kernel and an interrupt handler must not.
    - Stack: DEDAKHUMI_APPLY_STACK, DEDAKHUMI_NAME_STACK and DEDAKHUMI_START_STACK bytes, return address included; memset's own come to that.
    - Instructions of dedakhumi_apply: in steady work some 870 an event at 3 tasks, 2,080 at 16 and 9,480 at 64. The most that a search found
-     is 28,386: a CHECK CONDITION of the ACA task under QERR 01b on a lent table with 63 other tasks; and 27,076 where a start leads there:
-     a CHECK CONDITION under QERR 01b with 64 tasks. Both end all tasks, so that no two such events follow each other. */
+     (0.4.0) is some 28,400: a CHECK CONDITION of the ACA task under QERR 01b on a lent table with 63 other tasks; and 27,100 where a start
+     leads there: that of a task under QERR 01b with 64 tasks. Both end all tasks, so that no two such events follow each other. */
 #ifndef DEDAKHUMI_H
 #define DEDAKHUMI_H
 
@@ -76,7 +85,7 @@ extern "C" {
 #endif
 
 /* DEDAKHUMI_INTERFACE goes up with each change of a length, a layout or a function's parameters. */
-#define DEDAKHUMI_VERSION "0.4.0"
+#define DEDAKHUMI_VERSION "0.5.0"
 #define DEDAKHUMI_INTERFACE 1
 #define DEDAKHUMI_INTERFACE_SYMBOL dedakhumi_interface_1
 
@@ -187,7 +196,8 @@ enum dedakhumi_answer_number {
 	DEDAKHUMI_BAD_POLICY = 9
 };
 
-/* The policy byte (RULES 14.4): one QERR value, with or without TAS. QERR 10b and bits 3 to 7 are a bad policy. It survives every reset. */
+/* The policy byte (RULES 14.4): one QERR value, with or without TAS. QERR 10b and bits 3 to 7 are a bad policy. It survives every reset.
+   "That nexus" is the one of the task that completed, or of the command that ended at entry. */
 enum dedakhumi_policy {
 	/* a CHECK CONDITION aborts no other task */
 	DEDAKHUMI_POLICY_QERR_NONE = 0x00,
@@ -203,7 +213,8 @@ enum dedakhumi_policy {
 /* Byte 2 of an event (RULES 16). A field that is not named beside a kind has to be 0. */
 enum dedakhumi_kind {
 	/* nexus, tag; first: the attribute, any byte; second: DEDAKHUMI_CONTROL_NACA, DEDAKHUMI_CONTROL_EXEMPT, and no other bit. Where a
-	   task of that nexus and tag is in the table, all tasks of the nexus end with FFh, and the command with CHECK CONDITION. */
+	   task of that nexus and tag is in the table, all tasks of the nexus end with FFh, and the command with CHECK CONDITION, in an ACA
+	   too. That is a CHECK CONDITION like others: without an ACA those of other nexuses may end as well, by QERR. */
 	DEDAKHUMI_KIND_COMMAND = 1,
 	/* nexus, tag; first: DEDAKHUMI_STATUS_GOOD or DEDAKHUMI_STATUS_CHECK_CONDITION */
 	DEDAKHUMI_KIND_COMPLETION = 2,
@@ -215,7 +226,7 @@ enum dedakhumi_kind {
 
 /* Byte 5 of a COMMAND. Bit 0 is byte 5 of the task as well. It is not the CDB's control byte, where NACA is bit 2. */
 enum dedakhumi_control {
-	/* a completion of this task with CHECK CONDITION sets up an ACA */
+	/* CHECK CONDITION sets up an ACA: the task's, and without an ACA that of a command that ends at entry */
 	DEDAKHUMI_CONTROL_NACA = 0x01,
 	/* INQUIRY, REPORT LUNS or REQUEST SENSE: enters in spite of a pending unit attention, which stays for the next other command */
 	DEDAKHUMI_CONTROL_EXEMPT = 0x02
@@ -282,7 +293,8 @@ enum dedakhumi_status {
 
 /* Byte 3 of a nexus record (RULES 3): the unit attentions that wait for the nexus, highest rank first. A command that is not exempt, and
    that neither its tag nor an ACA has stopped, is told the highest one by CHECK CONDITION with key 6h and the code and qualifier beside
-   it; that one is cleared, and the others wait for later commands. One that is set takes those of lower rank away. */
+   it; that one is cleared, and the others wait for later commands. QERR and NACA go with this CHECK CONDITION as with any other. One that
+   is set takes those of lower rank away. */
 enum dedakhumi_pending {
 	/* 29h/00h */
 	DEDAKHUMI_PENDING_POWER_ON = 0x01,
@@ -307,7 +319,7 @@ enum dedakhumi_sense_key {
 };
 
 /* What dedakhumi_apply answers. `status` is 0 except under 7; `key`, `code` and `qualifier` are 0 except under 7 with CHECK CONDITION;
-   `ended` is the number of ended records in the report, and 0 under every answer but 0 and 7. */
+   `ended` is the number of ended records in the report, and 0 under every answer but 0 and 7, and under 7 without CHECK CONDITION. */
 struct dedakhumi_answer {
 	uint8_t answer, status, key, code, qualifier, ended;
 };
