@@ -41,10 +41,12 @@ static const struct giver {
 };
 enum { GIVERS = sizeof givers / sizeof givers[0] };
 
-/* By the rules; 0 if the event was not done. */
+/* By the rules; 0 if the event was refused. A command that ended at entry gives one by QERR alone (RULES 5.16). */
 static uint8_t given_to(const struct happening *happening, unsigned nexus)
 {
 	const struct dedakhumi_fields *event = &happening->event;
+	if (happening->answer.answer == DEDAKHUMI_ENDED_AT_ENTRY)
+		return to_aborted(happening, nexus) ? DEDAKHUMI_PENDING_COMMANDS_CLEARED : 0;
 	for (const struct giver *giver = givers; giver < givers + GIVERS; giver++)
 		if (happening->answer.answer == DEDAKHUMI_DONE && giver->kind == event->kind && giver->first == event->first)
 			return giver->to(happening, nexus) ? giver->bit : 0;

@@ -55,14 +55,16 @@ static struct dedakhumi_event event_of_a_task(uint8_t kind, uint8_t first)
 
 static struct dedakhumi_event any_command(void)
 {
-	uint8_t attribute = (uint8_t)below(6), control = (uint8_t)below(below(50) == 0 ? 8 : 4);
+	uint8_t attribute = (uint8_t)below(below(4) == 0 ? 6 : 3), control = (uint8_t)below(below(50) == 0 ? 8 : 4);
 	return dedakhumi_command_event((uint8_t)below(8), (dedakhumi_tag)below(300), attribute, control);
 }
 
-/* Commands outnumber the rest, so that the set is often full. */
+/* Commands outnumber the rest, so that the set is often full; an ACA, which keeps them out, is soon cleared. */
 static struct dedakhumi_event any_event(void)
 {
-	switch (below(20)) {
+	if (dedakhumi_faulted_nexus(table) != DEDAKHUMI_NEXUSES && below(2) == 0)
+		return dedakhumi_function_event(dedakhumi_faulted_nexus(table), DEDAKHUMI_FUNCTION_CLEAR_ACA);
+	switch (below(60)) {
 	case 0: return dedakhumi_function_event((uint8_t)below(9), (uint8_t)below(7));
 	case 1: return below(10) == 0 ? dedakhumi_reset_event((uint8_t)(1 + below(2))) : any_command();
 	case 2: return dedakhumi_nexus_loss_event((uint8_t)below(9));
