@@ -19,6 +19,7 @@ use borrow.Author.Tests.{eqb-true, not-false}
 use Rattle.laws.specs.Lists.{any, passing}
 use Rattle.laws.specs.RecordsInLists.{recordAt, joined}
 use Rattle.laws.proofs.Bools.{and-true, or-true, not-both, split, eqb-sym}
+use Rattle.laws.proofs.Lists.{map-passing}
 use Rattle.octets.specs.Sizes.{policyOffset, acaOffset, nexusOffset, secondOffset, stateOffset, statusOffset}
 use Rattle.rules.specs.Tasks.{same, enabledTask}
 use Rattle.rules.specs.Rulings.{State, answerOf, ruled, reportOf, taskName}
@@ -27,7 +28,8 @@ use Rattle.rules.specs.Refusals.{EndsAtEntry, at-entry}
 use Rattle.rules.proofs.Ruled.{step-ruled, answer-ruled, report-ruled}
 use Rattle.rules.proofs.Cases.{enter-cases, other-cases}
 use Rattle.rules.proofs.Ends.{isCommand, report-within}
-use Rattle.rules.proofs.WellKept.{Tested, tested-ruling}
+use Rattle.rules.proofs.WellKept.{Tested}
+use Rattle.rules.proofs.FairRulings.{tested-ruling}
 use Rattle.rules.proofs.WellSays.{says-tested}
 use Rattle.rules.proofs.AtEntry.{refused-begins-aca, refused-in-aca, aborted, refused-lists-aborted, refused-empties}
 use Rattle.records.specs.Numbers.{acaNumber, policyFrom}
@@ -75,10 +77,6 @@ abbrev pub recordsIn : List ℕ → List (List ℕ)
 recordsIn t = recordsFrom (countIn t) (drop tasksAt t)
 
 -- The records ------------------------------------------------------------------------------------------------------------------------------
-
-map-passing : {A B : Type 0} (f : A → B) (p : B → Bool) (xs : List A) → map f (passing (λ x. p (f x)) xs) ≡ passing p (map f xs)
-map-passing f p [] = refl
-map-passing f p (x ∷ xs) = split (p (f x)) (λ h. rw (h, map-passing f p xs)) (λ h. rw (h, map-passing f p xs))
 
 listed-is : (n g : ℕ) (ts : List Task) → isListed (record { nexus = n; tag = g }) (map taskName ts) ≡ any (same n g) ts
 listed-is n g [] = refl
@@ -247,7 +245,7 @@ module _ (t r e : List ℕ) where
       end-all (inl z) = rw z
       end-all (inr z) = rw z
 
-  -- RULES 4.9 and 5.20: the report lists aborted tasks, with FFh or 40h, in the order of the table
+  -- RULES 4.9 and 5.16: the report lists aborted tasks, with FFh or 40h, in the order of the table
   pub entry-lists-aborted :
       number t r e ≡ 7
       → ((i : ℕ) → i < (answered (outcome t r e)) .ended → (statusAt ((outcome t r e) .report) i ≡ 0xFF) ⊎ (statusAt ((outcome t r e) .report) i ≡ 0x40))

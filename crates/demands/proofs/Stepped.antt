@@ -9,7 +9,7 @@ use Rattle.rules.specs.Rulings.{State, pendingOf}
 use Rattle.rules.specs.Rules.{ruling, step}
 use Rattle.rules.specs.Attentions.{isSet, bitAfter, attention}
 use Rattle.rules.proofs.Ruled.{step-ruled}
-use Rattle.rules.proofs.WellKept.{tested-ruling}
+use Rattle.rules.proofs.FairRulings.{tested-ruling}
 use Rattle.rules.proofs.WellSays.{says-tested}
 use Rattle.rules.proofs.Attentions.{bits-after}
 use Rattle.records.specs.Numbers.{pendingFrom}

@@ -3,7 +3,8 @@ use mathlib.Core.List.{List, [], _∷_}
 use Rattle.rules.specs.Types.{Event, Policy}
 use Rattle.rules.specs.Rulings.{fresh}
 use Rattle.rules.specs.Well.{WellFormed}
-use Rattle.rules.proofs.WellKept.{Tested, tested-ruling, tested-fresh}
+use Rattle.rules.proofs.WellKept.{Tested, tested-fresh}
+use Rattle.rules.proofs.FairRulings.{tested-ruling}
 use Rattle.rules.proofs.WellSays.{tested-says}
 use Rattle.history.specs.History.{Past, begin, advance, play, after}
 

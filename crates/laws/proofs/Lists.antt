@@ -1,8 +1,8 @@
--- Laws of `any`, `count`, `first` and `passing`.
+-- Laws of `any`, `count`, `first`, `passing` and `map`.
 use Prim.Native.Nat.{_+_}
 use mathlib.Core.Bool.{Bool, true, false, cond, not, or-true as or-on}
 use mathlib.Core.Path.{_≡_, refl, ap, sym}
-use mathlib.Core.List.{List, [], _∷_, _++_}
+use mathlib.Core.List.{List, [], _∷_, _++_, map}
 use mathlib.Core.Option.{none, some}
 use native.Mathlib.Omega.{arith}
 use lib.ListN.{length}
@@ -79,3 +79,12 @@ module _ {A : Type 0} where
   first-append p (x ∷ xs) ys y h f g =
       first-cases p x (xs ++ ys) y h (λ a b. f (rw (a, b)))
       (λ a b. first-append p xs ys y b (λ c. f (rw (a, c))) (λ c d. g (rw (a, c)) d))
+
+module _ {A B : Type 0} where
+  pub map-alike : (f g : A → B) → ((x : A) → f x ≡ g x) → (xs : List A) → map f xs ≡ map g xs
+  map-alike f g h [] = refl
+  map-alike f g h (x ∷ xs) = rw (h x, map-alike f g h xs)
+
+  pub map-passing : (f : A → B) (p : B → Bool) (xs : List A) → map f (passing (λ x. p (f x)) xs) ≡ passing p (map f xs)
+  map-passing f p [] = refl
+  map-passing f p (x ∷ xs) = split (p (f x)) (λ h. rw (h, map-passing f p xs)) (λ h. rw (h, map-passing f p xs))

@@ -8,7 +8,7 @@ use lib.Dec.{eqb, ltb}
 use borrow.Author.Tests.{eqb-true, eqb-false, not-false}
 use Rattle.laws.specs.Lists.{any, passing}
 use Rattle.laws.proofs.Bools.{cases, split}
-use Rattle.laws.proofs.Lists.{any-less}
+use Rattle.laws.proofs.Lists.{any-less, map-alike}
 use Rattle.rules.specs.Types.{TaskState, Dormant, Enabled, Blocked, Task, Entry, Command, Qerr, EndNone, EndAll, EndNexus, Policy, Allegiance, Clear, Faulted, Top, NoBit, Highest, Fate, Stays, Ends, Ended, Sweep, Nobody, NexusTasks, Sense, Done, NexusAboveSeven, EndedAtEntry, Ruling, Changes}
 use Rattle.rules.specs.Tasks.{nexuses, acaTask, ofNexus, same, isEnabled, blockedIfEnabled, restate, enabledTask}
 use Rattle.rules.specs.Rulings.{State, isClear, pendingOf, endIf, kept, lost, alsoByQerr, fateByQerr, fateOf, fatesOf, answerOf, ruled, endedFrom, reportOf, taskName}
@@ -36,20 +36,16 @@ pub record FailsAs (s : State) (c : Entry) (r : Ruling) : Type 0 where
   pub aca : (ruled s r) .header .aca ≡ acaAtEntry s c
   pub run-stays : (ruled s r) .header .run ≡ s .header .run
 
-pub map-alike : {A B : Type 0} (f g : A → B) → ((x : A) → f x ≡ g x) → (xs : List A) → map f xs ≡ map g xs
-map-alike f g h [] = refl
-map-alike f g h (x ∷ xs) = rw (h x, map-alike f g h xs)
-
 -- the check's own sweep, by whether the command was overlapped
 abbrev ownSweep : Bool → ℕ → Sweep
 ownSweep overlapped n = cond overlapped (NexusTasks n) Nobody
 
+if-ends : (b : Bool) → cond b (Ends 0xFF) Stays ≡ endIf b 0xFF
+if-ends true = refl
+if-ends false = refl
+
 own-fate : (overlapped : Bool) (n : ℕ) (t : Task) → fateOf (ownSweep overlapped n) t ≡ cond (overlapped && ofNexus n t) (Ends 0xFF) Stays
-own-fate true n t = go (ofNexus n t)
-  where
-    go : (b : Bool) → endIf b 0xFF ≡ cond b (Ends 0xFF) Stays
-    go true = refl
-    go false = refl
+own-fate true n t = sym (if-ends (ofNexus n t))
 own-fate false n t = refl
 
 -- check 1 and QERR together: the tasks of the command's nexus end with FFh, whatever QERR is, and QERR adds the others
@@ -197,11 +193,7 @@ refused-in-aca s c se f e a =
     stays = rw a
 
     alike : (t : Task) → fateAtEntry s c t ≡ endIf (own t) 0xFF
-    alike t = rw a (either (own t))
-      where
-        either : (b : Bool) → cond b (Ends 0xFF) Stays ≡ endIf b 0xFF
-        either true = refl
-        either false = refl
+    alike t = rw a (if-ends (own t))
 
 -- RULES 4.4: the status of a record, by whether its task was of the causing nexus
 abbrev pub abortedStatus : Bool → Bool → ℕ
@@ -316,16 +308,23 @@ refused-empties s c se e a q =
     ends : (t : Task) → isEnds (fateAtEntry s c t) ≡ true
     ends t = rw (a, q) (cases (λ k. isEnds k ≡ true) (any (same (c .nexus) (c .tag)) (s .tasks) && ofNexus (c .nexus) t) (λ x. refl) (λ x. refl))
 
+-- where just the tasks of the command's nexus end, the others stay, in their order
+pub names-left :
+    (s : State) (c : Entry) (se : Sense) → answer s (Command c) ≡ EndedAtEntry 0x02 se
+    → map (fateAtEntry s c) (s .tasks) ≡ map (λ (t : Task). endIf (ofNexus (c .nexus) t) 0xFF) (s .tasks)
+    → map taskName ((step s (Command c)) .tasks) ≡ map taskName (passing (λ (t : Task). not (ofNexus (c .nexus) t)) (s .tasks))
+unfolding step
+names-left s c se e own =
+    ap (map taskName) (refused-with-02 s c se e .tasks)
+    ∙ map-restate taskName (λ t st. refl) (s .header .aca) (acaAtEntry s c) (kept (map (fateAtEntry s c) (s .tasks)) (s .tasks))
+    ∙ ap (λ fs. map taskName (kept fs (s .tasks))) own
+    ∙ ap (map taskName) (kept-others (ofNexus (c .nexus)) 0xFF (s .tasks))
+
 -- RULES 4.5 and 5.16: under QERR 11b, without an ACA, all tasks of the command's nexus end, and no other
 pub refused-ends-nexus :
     (s : State) (c : Entry) (se : Sense) → answer s (Command c) ≡ EndedAtEntry 0x02 se → s .header .aca ≡ Clear → s .header .policy .qerr ≡ EndNexus
     → map taskName ((step s (Command c)) .tasks) ≡ map taskName (passing (λ (t : Task). not (ofNexus (c .nexus) t)) (s .tasks))
-unfolding step
-refused-ends-nexus s c se e a q =
-    ap (map taskName) (refused-with-02 s c se e .tasks)
-    ∙ map-restate taskName (λ t st. refl) (s .header .aca) (acaAtEntry s c) (kept (map (fateAtEntry s c) (s .tasks)) (s .tasks))
-    ∙ ap (λ fs. map taskName (kept fs (s .tasks))) (map-alike (fateAtEntry s c) (λ t. endIf (ofNexus (c .nexus) t) 0xFF) alike (s .tasks))
-    ∙ ap (map taskName) (kept-others (ofNexus (c .nexus)) 0xFF (s .tasks))
+refused-ends-nexus s c se e a q = names-left s c se e (map-alike (fateAtEntry s c) (λ t. endIf (ofNexus (c .nexus) t) 0xFF) alike (s .tasks))
   where
     alike : (t : Task) → fateAtEntry s c t ≡ endIf (ofNexus (c .nexus) t) 0xFF
     alike t = rw (a, q) (go (any (same (c .nexus) (c .tag)) (s .tasks)) (ofNexus (c .nexus) t))

@@ -1,69 +1,30 @@
 -- What each event does to each pending bit of each nexus: the rules agree with specs/Attentions.
-use Prim.Native.Nat.{ℕ, zero, suc, _+_, _<_}
+use Prim.Native.Nat.{ℕ, zero, suc, _<_}
 use mathlib.Core.Bool.{Bool, true, false, cond, _&&_, not, and-true as and-on, and-false as and-off, or-false as or-off}
 use mathlib.Core.Path.{_≡_, refl, ap, _∙_}
 use mathlib.Core.List.{List, [], _∷_, map}
 use mathlib.Core.Option.{Option, none, some}
 use native.Mathlib.Omega.{arith}
 use lib.Dec.{eqb, ltb}
-use lib.ListN.{length, getD, set, length-set}
+use lib.ListN.{length, getD}
 use lib.Seq.{getD-set-same, getD-set-other}
 use borrow.Author.Tests.{not-true, ltb-true, lt-ltb, eqb-true, eqb-false, eq-eqb}
 use Rattle.laws.specs.Lists.{any, first}
 use Rattle.laws.proofs.Bools.{and-true, cases, split}
 use Rattle.laws.proofs.Lists.{any-less, first-passes, first-any, first-none}
-use Rattle.rules.specs.Types.{Task, Entry, Finish, Good, CheckCondition, Function, AbortTask, AbortTaskSet, ClearTaskSet, ClearAca, LogicalUnitReset, Unknown, Happening, PowerOn, HardReset, NexusLoss, Event, Command, Completion, Management, Condition, Qerr, EndNone, EndAll, EndNexus, Allegiance, Clear, Faulted, Pending, Bit, PowerBit, HardBit, UnitBit, LossBit, ClearedBit, Top, NoBit, Highest, EndedAtEntry, Sense, Sweep, ClearedBy, FailedTask, Done, Ruling, Changes}
+use Rattle.rules.specs.Types.{Task, Entry, Finish, Good, CheckCondition, Function, AbortTask, AbortTaskSet, ClearTaskSet, ClearAca, LogicalUnitReset, Unknown, Happening, PowerOn, HardReset, NexusLoss, Event, Command, Completion, Management, Condition, Allegiance, Clear, Faulted, Pending, Bit, ClearedBit, Top, NoBit, Highest, EndedAtEntry, Sense, Sweep, ClearedBy, FailedTask, Done, Ruling, Changes}
 use Rattle.rules.specs.Tasks.{nexuses, acaTask, ofNexus, same, isEnabled, enabledTask, isNamed}
-use Rattle.rules.specs.Bits.{noPending, top, senseFor, without, afterPowerOn, afterHardReset, afterUnitReset, afterNexusLoss, afterCleared}
-use Rattle.rules.specs.Rulings.{State, isClear, pendingOf, turn, lost, alsoByQerr, fateOf, tellLosersFrom, noted, answerOf, ruled}
-use Rattle.rules.specs.Rules.{tellsOthers, telling, checkCondition, check2, bitToReport, finish, complete, clearing, manage, happen, nexusOf, ruleFor, ruling, step}
+use Rattle.rules.specs.Bits.{noPending, top, senseFor, afterPowerOn, afterHardReset, afterUnitReset}
+use Rattle.rules.specs.Rulings.{State, isClear, pendingOf, turn, lost, alsoByQerr, fateOf, answerOf, ruled}
+use Rattle.rules.specs.Rules.{checkCondition, check2, bitToReport, finish, complete, clearing, manage, happen, nexusOf, ruleFor, ruling, step}
 use Rattle.rules.specs.Well.{WellFormed, distinct}
-use Rattle.rules.specs.Attentions.{rank, ranks, isSet, highest, Attention, Unmoved, Gets, Reports, bitAfter, passesAca, reportsBit, reportedBy, clearedBy, failsAtEntry, completes, endsOthers, byFunction, byHappening, caused, attention}
-use Rattle.rules.proofs.Fates.{isEnds, all-end}
+use Rattle.rules.specs.Attentions.{ranks, isSet, highest, Attention, Unmoved, Gets, Reports, bitAfter, passesAca, reportsBit, reportedBy, clearedBy, failsAtEntry, completes, endsOthers, byFunction, byHappening, caused, attention}
 use Rattle.rules.proofs.Distinct.{same-parts}
 use Rattle.rules.proofs.Cases.{stop, check-cases, failing-cases, check2-none}
 use Rattle.rules.proofs.WellKept.{Tested}
 use Rattle.rules.proofs.WellSays.{says-tested}
 use Rattle.rules.proofs.FieldErrors.{topIs, top-first, qerr-all-ends}
-
--- By rank ----------------------------------------------------------------------------------------------------------------------------------
-
-pub every-bit : (P : Bit → Type 0) → P PowerBit → P HardBit → P UnitBit → P LossBit → P ClearedBit → (b : Bit) → P b
-every-bit P p0 p1 p2 p3 p4 PowerBit = p0
-every-bit P p0 p1 p2 p3 p4 HardBit = p1
-every-bit P p0 p1 p2 p3 p4 UnitBit = p2
-every-bit P p0 p1 p2 p3 p4 LossBit = p3
-every-bit P p0 p1 p2 p3 p4 ClearedBit = p4
-
--- the bits of a nexus after an attention, as the rules write them
-abbrev changed : Attention → Pending → Pending
-changed Unmoved p = p
-changed (Gets PowerBit) p = afterPowerOn p
-changed (Gets HardBit) p = afterHardReset p
-changed (Gets UnitBit) p = afterUnitReset p
-changed (Gets LossBit) p = afterNexusLoss p
-changed (Gets ClearedBit) p = afterCleared p
-changed (Reports b) p = without b p
-
-abbrev ByRank : Attention → Pending → Bit → Type 0
-ByRank a p b = isSet (changed a p) b ≡ bitAfter a b (isSet p b)
-
-changed-bits : (a : Attention) (p : Pending) (b : Bit) → ByRank a p b
-changed-bits Unmoved p = λ b. refl
-changed-bits (Gets PowerBit) p = every-bit (ByRank (Gets PowerBit) p) refl refl refl refl refl
-changed-bits (Gets HardBit) p = every-bit (ByRank (Gets HardBit) p) refl refl refl refl refl
-changed-bits (Gets UnitBit) p = every-bit (ByRank (Gets UnitBit) p) refl refl refl refl refl
-changed-bits (Gets LossBit) p = every-bit (ByRank (Gets LossBit) p) refl refl refl refl refl
-changed-bits (Gets ClearedBit) p = every-bit (ByRank (Gets ClearedBit) p) refl refl refl refl refl
-changed-bits (Reports PowerBit) p = every-bit (ByRank (Reports PowerBit) p) refl refl refl refl refl
-changed-bits (Reports HardBit) p = every-bit (ByRank (Reports HardBit) p) refl refl refl refl refl
-changed-bits (Reports UnitBit) p = every-bit (ByRank (Reports UnitBit) p) refl refl refl refl refl
-changed-bits (Reports LossBit) p = every-bit (ByRank (Reports LossBit) p) refl refl refl refl refl
-changed-bits (Reports ClearedBit) p = every-bit (ByRank (Reports ClearedBit) p) refl refl refl refl refl
-
--- the two ways to say the rank agree
-pub rank-place : (b : Bit) → getD ranks (rank b) PowerBit ≡ b
-rank-place = every-bit (λ b. getD ranks (rank b) PowerBit ≡ b) refl refl refl refl refl
+use Rattle.rules.proofs.Telling.{changed, changed-bits, tells, told-bits, cleared-after, untold, by-qerr}
 
 -- By cause ---------------------------------------------------------------------------------------------------------------------------------
 
@@ -86,11 +47,6 @@ unmoved-due s i r e = record { bits = e; told = λ b u. none-reported u }
 -- another way to say the attention
 due-as : {s : State} {i : ℕ} {r : Ruling} {a b : Attention} → a ≡ b → Due s i r b → Due s i r a
 due-as e d = rw e d
-
--- what check 3 says to a nexus
-abbrev tells : Top → Attention
-tells NoBit = Unmoved
-tells (Highest b) = Reports b
 
 no-bit : {P : Type 0} {b : Bit} → NoBit ≡ Highest b → P
 no-bit e = absurd (let z : _≡_ {A = ℕ} 0 1 = cc in omega arith)
@@ -119,94 +75,9 @@ passes : (a : Allegiance) (c : Entry) (aca : Bool) → check2 a c aca ≡ none �
 passes Clear c aca e = refl
 passes (Faulted f) c aca e = let k = check2-none f c aca e in rw (k .0, k .1, k .2)
 
--- Who is told
-
-module _ (i n : ℕ) (ls : List Task) where
-  told-losers :
-      (j k : ℕ) (ps : List Pending) → j + k ≡ i → k < length ps
-      → getD (tellLosersFrom j n ls ps) k noPending
-      ≡ changed (cond (not (eqb i n) && any (ofNexus i) ls) (Gets ClearedBit) Unmoved) (getD ps k noPending)
-  told-losers j k [] e l = absurd (omega arith)
-  told-losers j zero (p ∷ ps) e l = let z : j ≡ i = omega arith in rw z (go (not (eqb i n) && any (ofNexus i) ls))
-    where
-      go : (b : Bool) → cond b (afterCleared p) p ≡ changed (cond b (Gets ClearedBit) Unmoved) p
-      go true = refl
-      go false = refl
-  told-losers j (suc k) (p ∷ ps) e l = told-losers (suc j) k ps (omega arith) (omega arith)
-
-  -- the bit reported to nexus n, if there is one, and bit 4 of another that lost a task, if others are told
-  abbrev toldTo : Top → Bool → Attention
-  toldTo o others = cond (eqb i n) (tells o) (cond (others && any (ofNexus i) ls) (Gets ClearedBit) Unmoved)
-
-  module _ (ps : List Pending) (low : i < length ps) where
-    losers-told : getD (tellLosersFrom 0 n ls ps) i noPending ≡ changed (toldTo NoBit true) (getD ps i noPending)
-    losers-told = told-losers 0 i ps (omega arith) low ∙ ap (λ a. changed a (getD ps i noPending)) (go (eqb i n))
-      where
-        go : (b : Bool) → cond (not b && any (ofNexus i) ls) (Gets ClearedBit) Unmoved ≡ cond b Unmoved (cond (any (ofNexus i) ls) (Gets ClearedBit) Unmoved)
-        go true = refl
-        go false = refl
-
-    bit-told : (b : Bit) → getD (set ps n (without b (getD ps n noPending))) i noPending ≡ changed (toldTo (Highest b) false) (getD ps i noPending)
-    bit-told b =
-        split (eqb i n) (λ k. let z : i ≡ n = eqb-true i n k in rw (k, ← z) (getD-set-same ps i _ noPending low))
-        (λ k. rw k (getD-set-other ps n i _ noPending (eqb-false i n k)))
-
-  told-bits :
-      (o : Top) (others : Bool) (ps : List Pending) → i < length ps
-      → getD (noted (telling n o others) ls ps) i noPending ≡ changed (toldTo o others) (getD ps i noPending)
-  told-bits NoBit false ps low = cases (λ a. getD ps i noPending ≡ changed a (getD ps i noPending)) (eqb i n) (λ k. refl) (λ k. refl)
-  told-bits NoBit true ps low = losers-told ps low
-  told-bits (Highest b) false ps low = bit-told ps low b
-  told-bits (Highest b) true ps low =
-      losers-told (set ps n (without b (getD ps n noPending))) (omega (arith, length-set ps n (without b (getD ps n noPending))))
-      ∙ ap (changed (toldTo NoBit true)) (bit-told ps low b)
-      ∙ go (eqb i n) (cond (any (ofNexus i) ls) (Gets ClearedBit) Unmoved) (getD ps i noPending)
-    where
-      go : (own : Bool) (a : Attention) (p : Pending) → changed (cond own Unmoved a) (changed (cond own (Reports b) Unmoved) p) ≡ changed (cond own (Reports b) a) p
-      go true a p = refl
-      go false a p = refl
+-- A command
 
 module _ (s : State) (i : ℕ) (here : i < length (s .pending)) where
-  -- all tasks end by the sweep w, for nexus n
-  cleared-after :
-      (n : ℕ) (o : Top) (w : Sweep) → ((t : Task) → isEnds (fateOf w t) ≡ true)
-      → getD (noted (telling n o (not (s .header .policy .tas))) (lost (map (fateOf w) (s .tasks)) (s .tasks)) (s .pending)) i noPending
-      ≡ changed (cond (eqb i n) (tells o) (clearedBy s n i)) (pendingOf s i)
-  cleared-after n o w all =
-      rw (all-end (fateOf w) (s .tasks) all .1)
-      (told-bits i n (s .tasks) o (not (s .header .policy .tas)) (s .pending) here
-      ∙ ap (λ a. changed a (pendingOf s i)) (go (s .header .policy .tas) (eqb i n)))
-    where
-      go :
-          (tas b : Bool)
-          → cond b (tells o) (cond (not tas && any (ofNexus i) (s .tasks)) (Gets ClearedBit) Unmoved)
-          ≡ cond b (tells o) (cond (not tas && not b && any (ofNexus i) (s .tasks)) (Gets ClearedBit) Unmoved)
-      go tas true = refl
-      go true false = refl
-      go false false = refl
-
-  -- the causing nexus is not among those told
-  untold : (n : ℕ) (others : Bool) → cond (eqb i n) Unmoved (cond others (clearedBy s n i) Unmoved) ≡ cond others (clearedBy s n i) Unmoved
-  untold n = go (eqb i n) (s .header .policy .tas)
-    where
-      go :
-          (own tas others : Bool)
-          → cond own Unmoved (cond others (cond (not tas && not own && any (ofNexus i) (s .tasks)) (Gets ClearedBit) Unmoved) Unmoved)
-          ≡ cond others (cond (not tas && not own && any (ofNexus i) (s .tasks)) (Gets ClearedBit) Unmoved) Unmoved
-      go false tas others = refl
-      go true tas false = refl
-      go true true true = refl
-      go true false true = refl
-
-  -- QERR, by whether it is applied
-  by-qerr :
-      (n : ℕ) (o : Top) (w : Sweep) (q : Qerr) → (q ≡ EndAll → (t : Task) → isEnds (fateOf w t) ≡ true)
-      → getD (noted (telling n o (tellsOthers q (s .header .policy .tas))) (lost (map (fateOf w) (s .tasks)) (s .tasks)) (s .pending)) i noPending
-      ≡ changed (cond (eqb i n) (tells o) (cond (endsOthers q) (clearedBy s n i) Unmoved)) (pendingOf s i)
-  by-qerr n o w EndNone all = told-bits i n (lost (map (fateOf w) (s .tasks)) (s .tasks)) o false (s .pending) here
-  by-qerr n o w EndAll all = cleared-after n o w (all refl)
-  by-qerr n o w EndNexus all = told-bits i n (lost (map (fateOf w) (s .tasks)) (s .tasks)) o false (s .pending) here
-
   -- a CHECK CONDITION at entry: the nexus of the command, another one
   abbrev failedTo : Entry → Top → Attention
   failedTo c o =
@@ -218,10 +89,8 @@ module _ (s : State) (i : ℕ) (here : i < length (s .pending)) where
       → pendingOf (ruled s (checkCondition (s .header) c se w o)) i ≡ changed (failedTo c o) (pendingOf s i)
   failed-bits c se w o =
       failing-cases (λ d. pendingOf (ruled s (Changes (EndedAtEntry 0x02 se) d)) i ≡ changed (failedTo c o) (pendingOf s i)) (s .header) c w o
-      (λ a. rw a (by-qerr (c .nexus) o (alsoByQerr (s .header .policy .qerr) (s .header .policy) (c .nexus) w) (s .header .policy .qerr) (λ q t. rw q)))
+      (λ a. rw a (by-qerr s i here (c .nexus) o (alsoByQerr (s .header .policy .qerr) (s .header .policy) (c .nexus) w) (s .header .policy .qerr) (λ q t. rw q)))
       (λ f a. rw a (told-bits i (c .nexus) (lost (map (fateOf w) (s .tasks)) (s .tasks)) o false (s .pending) here))
-
--- A command
 
 module _ (s : State) (c : Entry) where
   -- checks 1 and 2 let the command pass

@@ -18,7 +18,8 @@ use Rattle.rules.specs.Rules.{ruleFor, ruling, step, answer}
 use Rattle.rules.specs.Well.{WellFormed}
 use Rattle.rules.specs.Attentions.{rank, ranks, isSet, highest, Attention, Unmoved, Gets, Reports, bitAfter, reaches3, reportsBit, failsAtEntry, endsOthers, attention}
 use Rattle.rules.proofs.Cases.{stop, check-cases}
-use Rattle.rules.proofs.Attentions.{every-bit, rank-place, none-reported, bit-waits, others-unreported, command-due, bits-after}
+use Rattle.rules.proofs.Telling.{every-bit, rank-place}
+use Rattle.rules.proofs.Attentions.{none-reported, bit-waits, others-unreported, command-due, bits-after}
 
 -- RULES 5.8: the bit that a command is told of is the answer's
 pub reported-is-answered :
@@ -34,7 +35,7 @@ reported-is-answered s c i b w e =
     (λ q. absurd (others-unreported s c i b q (rw k at e))))
     (λ k. none-reported (rw k at e))
 
--- RULES 4.7: nor by a command of its own, however it ends: that sets none of its bits
+-- RULES 4.7: a command, however it ends, sets no bit of its own nexus
 pub command-tells-others-alone :
     (s : State) (c : Entry) (b : Bit) → WellFormed s → c .nexus < nexuses → isSet (pendingOf (step s (Command c)) (c .nexus)) b ≡ true
     → isSet (pendingOf s (c .nexus)) b ≡ true

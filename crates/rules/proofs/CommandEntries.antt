@@ -11,21 +11,21 @@ use lib.ListN.{length}
 use borrow.Author.Tests.{lt-ltb, le-leb, lt-leb}
 use Rattle.laws.specs.Lists.{any, passing}
 use Rattle.laws.proofs.Bools.{not-both, cases}
-use Rattle.laws.proofs.Lists.{any-never}
+use Rattle.laws.proofs.Lists.{any-never, map-alike}
 use Rattle.rules.specs.Types.{Task, Entry, Command, Qerr, EndNone, EndAll, EndNexus, Policy, Allegiance, Clear, Faulted, Bit, NoBit, Fate, Stays, Ends, Sense, Ended, Nobody, EndedAtEntry, Done, Ruling, Changes}
 use Rattle.rules.specs.Tasks.{places, nexuses, acaTask, ofNexus, same, restate}
 use Rattle.rules.specs.Bits.{top, senseFor}
-use Rattle.rules.specs.Rulings.{State, isClear, pendingOf, endIf, kept, fateByQerr, fateOf, answerOf, ruled, endedFrom, reportOf, taskName}
+use Rattle.rules.specs.Rulings.{State, isClear, pendingOf, endIf, kept, fateByQerr, answerOf, ruled, endedFrom, reportOf, taskName}
 use Rattle.rules.specs.Rules.{sense, endedWith, checkCondition, check2, bitToReport, badAttribute, check5, byChecks, enter, ruleFor, ruling, step, answer, report}
 use Rattle.rules.specs.Well.{WellFormed, statesFit}
 use Rattle.rules.specs.Attentions.{endsOthers}
-use Rattle.rules.proofs.Fates.{isEnds, gone, kept-others}
-use Rattle.rules.proofs.Distinct.{any-restate, map-restate}
+use Rattle.rules.proofs.Fates.{isEnds, gone, all-stay, none-ends}
+use Rattle.rules.proofs.Distinct.{any-restate}
 use Rattle.rules.proofs.Settled.{settle-settled}
 use Rattle.rules.proofs.Cases.{stop, check-cases, failing-cases}
 use Rattle.rules.proofs.WellSays.{says-tested}
-use Rattle.rules.proofs.Attentions.{every-bit}
-use Rattle.rules.proofs.AtEntry.{map-alike, fateAtEntry, acaAtEntry, refused-with-02}
+use Rattle.rules.proofs.Telling.{every-bit}
+use Rattle.rules.proofs.AtEntry.{fateAtEntry, acaAtEntry, refused-with-02, names-left}
 
 -- Overlapped -------------------------------------------------------------------------------------------------------------------------------
 
@@ -89,11 +89,7 @@ overlapped-ends-no-other s c o e =
     let f = refused-with-02 s c _ (overlapped-answer s c o) in
     record {
       reported = rw (f .fates, own) (own-reported (c .nexus) (s .tasks));
-      stay =
-          ap (map taskName) (f .tasks)
-          ∙ map-restate taskName (λ t st. refl) (s .header .aca) (acaAtEntry s c) (kept (map (fateAtEntry s c) (s .tasks)) (s .tasks))
-          ∙ ap (λ fs. map taskName (kept fs (s .tasks))) own
-          ∙ ap (map taskName) (kept-others (ofNexus (c .nexus)) 0xFF (s .tasks));
+      stay = names-left s c _ (overlapped-answer s c o) own;
     }
   where
     own : map (fateAtEntry s c) (s .tasks) ≡ map (λ (t : Task). endIf (ofNexus (c .nexus) t) 0xFF) (s .tasks)
@@ -103,14 +99,6 @@ overlapped-ends-no-other s c o e =
         (s .tasks)
 
 -- Attribute --------------------------------------------------------------------------------------------------------------------------------
-
-all-stay : (ts : List Task) → kept (map (fateOf Nobody) ts) ts ≡ ts
-all-stay [] = refl
-all-stay (t ∷ ts) = rw (all-stay ts)
-
-nobody-ends : (ts : List Task) → endedFrom (map (fateOf Nobody) ts) ts ≡ []
-nobody-ends [] = refl
-nobody-ends (t ∷ ts) = nobody-ends ts
 
 restate-same : (a : Allegiance) (ts : List Task) → statesFit a ts ≡ true → restate a a ts ≡ ts
 restate-same Clear ts e = settle-settled [] ts e
@@ -124,11 +112,11 @@ nothing-changes s c se w q n =
     failing-cases (λ d. (ruled s (Changes (EndedAtEntry 0x02 se) d) ≡ s) × (reportOf s (Changes (EndedAtEntry 0x02 se) d) ≡ [])) (s .header) c Nobody NoBit
     (λ a. (
       rw (q, n, all-stay (s .tasks), append-nil (s .tasks), settle-settled [] (s .tasks) (rw a at (says-tested s w .states)), ← (w .counted), a),
-      rw q (nobody-ends (s .tasks)),
+      rw q (none-ends (s .tasks)),
     ))
     (λ f a. (
       rw (all-stay (s .tasks), append-nil (s .tasks), restate-same (s .header .aca) (s .tasks) (says-tested s w .states), ← (w .counted)),
-      nobody-ends (s .tasks),
+      none-ends (s .tasks),
     ))
 
 key-of : {st : ℕ} {se : Sense} → EndedAtEntry st se ≡ EndedAtEntry 0x02 (sense 0x5 0x49 0x00) → se .key ≡ 0x5

@@ -9,8 +9,8 @@ use lib.ListN.{length}
 use Rattle.laws.specs.Lists.{one-if, any, count, first, passing}
 use Rattle.laws.proofs.Bools.{not-both, or-false, none-some}
 use Rattle.laws.proofs.Lists.{first-cases, any-others}
-use Rattle.rules.specs.Types.{Task, Fate, Stays, Ends}
-use Rattle.rules.specs.Rulings.{endIf, kept, lost, endedFrom, taskName, endedName}
+use Rattle.rules.specs.Types.{Task, Fate, Stays, Ends, Nobody}
+use Rattle.rules.specs.Rulings.{endIf, kept, lost, fateOf, endedFrom, taskName, endedName}
 
 abbrev pub isEnds : Fate → Bool
 isEnds Stays = false
@@ -158,3 +158,12 @@ report-names [] ts = refl
 report-names (f ∷ fs) [] = refl
 report-names (Stays ∷ fs) (t ∷ ts) = report-names fs ts
 report-names (Ends st ∷ fs) (t ∷ ts) = rw (report-names fs ts)
+
+-- under the sweep of nobody all stay, and none ends
+pub all-stay : (ts : List Task) → kept (map (fateOf Nobody) ts) ts ≡ ts
+all-stay [] = refl
+all-stay (t ∷ ts) = rw (all-stay ts)
+
+pub none-ends : (ts : List Task) → endedFrom (map (fateOf Nobody) ts) ts ≡ []
+none-ends [] = refl
+none-ends (t ∷ ts) = none-ends ts

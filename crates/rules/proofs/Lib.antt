@@ -6,10 +6,12 @@ pub mod Held
 pub mod Cases
 pub mod Policies
 pub mod WellKept
+pub mod FairRulings
 pub mod WellSays
 pub mod TurnRule
 pub mod Order
 pub mod FieldErrors
+pub mod Telling
 pub mod Attentions
 pub mod CommandBits
 pub mod AtEntry

@@ -21,7 +21,7 @@ use Rattle.rules.specs.Refusals.{Absent, no-such-task, Waits, not-enable
 use Rattle.rules.proofs.Distinct.{distinct-first}
 use Rattle.rules.proofs.Cases.{stop, check-cases, Passed, enter-cases, check2-none, ruling-low, ruling-high, rule-command, rule-completion, rule-management}
 use Rattle.rules.proofs.WellSays.{says-tested}
-use Rattle.rules.proofs.Attentions.{every-bit}
+use Rattle.rules.proofs.Telling.{every-bit}
 use Rattle.rules.proofs.FieldErrors.{topIs, top-first}
 
 -- The checks one by one --------------------------------------------------------------------------------------------------------------------

@@ -17,7 +17,8 @@ use Rattle.rules.specs.Well.{Stands, FitsWithoutAca, FitsInAca, WellForm
 use Rattle.rules.proofs.Distinct.{same-parts}
 use Rattle.rules.proofs.Settled.{is-aca, same-state, SettledHead, settled-cons}
 use Rattle.rules.proofs.Held.{held-cons, held-aca, held-enabled}
-use Rattle.rules.proofs.WellKept.{Tested, to-tested, from-tested, tested-ruling}
+use Rattle.rules.proofs.WellKept.{Tested, to-tested, from-tested}
+use Rattle.rules.proofs.FairRulings.{tested-ruling}
 
 -- Every place of a list --------------------------------------------------------------------------------------------------------------------
 

@@ -2,27 +2,20 @@
 use Prim.Native.Nat.{ℕ, zero, suc, _+_, _*_}
 use mathlib.Core.Bool.{true}
 use mathlib.Core.Path.{_≡_, refl, sym, ap}
-use mathlib.Core.List.{List, [], _∷_, _++_, map}
+use mathlib.Core.List.{List, _++_}
 use native.Mathlib.Omega.{arith}
 use lib.ListN.{take, drop}
 use lib.Seq.{take-add}
 use Rattle.laws.specs.RecordsInLists.{keptRecords}
-use Rattle.rules.specs.Rulings.{fateOf, kept, endedFrom}
+use Rattle.rules.specs.Rulings.{kept}
+use Rattle.rules.proofs.Fates.{all-stay, none-ends}
 use Rattle.records.specs.Records.{taskSize}
 use Rattle.records.specs.Tables.{tasksAt, tasksFrom}
 use Rattle.records.proofs.Good.{length-tasks-from}
-use Rattle.rules.specs.Types.{Task, Sweep, Nobody, OneTask, NexusTasks, AcaTask, AllTasks, ClearedBy, FailedTask}
+use Rattle.rules.specs.Types.{Sweep, Nobody, OneTask, NexusTasks, AcaTask, AllTasks, ClearedBy, FailedTask}
 use Rattle.steps.specs.Steps.{endsNobody, goneBy, endsOf}
 use Rattle.steps.specs.Closing.{KeptAs}
 use Rattle.steps.specs.Reports.{ListedAs}
-
-all-stay : (ts : List Task) → kept (map (fateOf Nobody) ts) ts ≡ ts
-all-stay [] = refl
-all-stay (t ∷ ts) = ap (λ (z : List Task). t ∷ z) (all-stay ts)
-
-none-ends : (ts : List Task) → endedFrom (map (fateOf Nobody) ts) ts ≡ []
-none-ends [] = refl
-none-ends (t ∷ ts) = none-ends ts
 
 records-stay : (n : ℕ) (l : List ℕ) → keptRecords taskSize (goneBy Nobody) n l ≡ take (taskSize * n) l
 unfolding keptRecords

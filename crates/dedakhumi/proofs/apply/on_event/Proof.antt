@@ -2,7 +2,8 @@ use borrow.Author.Needs.{needs}
 use native.Mathlib.Omega.{arith}
 use Rattle.rules.specs.Rules.{ruling}
 use Rattle.rules.proofs.Policies.{what-lasts}
-use Rattle.rules.proofs.WellKept.{tested-ruling, from-tested}
+use Rattle.rules.proofs.WellKept.{from-tested}
+use Rattle.rules.proofs.FairRulings.{tested-ruling}
 use Rattle.rules.specs.Rulings.{ruled}
 use Rattle.records.specs.Tables.{stateOf}
 use Rattle.records.proofs.Good.{table-tested, good-tested}
