@@ -9,7 +9,7 @@ use lib.Dec.{eqb}
 use borrow.Author.Tests.{eq-eqb}
 use Rattle.laws.specs.Lists.{first}
 use Rattle.laws.proofs.Bools.{and-true, not-both, cases}
-use Rattle.rules.specs.Types.{Task, Finish, Good, CheckCondition, Function, AbortTask, AbortTaskSet, ClearTaskSet, ClearAca, LogicalUnitReset, Unknown, Happening, PowerOn, HardReset, NexusLoss, Event, Command, Completion, Management, Condition, Allegiance, Clear, Faulted, Header, Change, NexusAboveSeven, Ruling, Keeps, Changes}
+use Rattle.rules.specs.Types.{Task, Finish, Function, AbortTask, AbortTaskSet, ClearTaskSet, ClearAca, LogicalUnitReset, Unknown, Happening, PowerOn, HardReset, NexusLoss, Event, Command, Completion, Management, Condition, Allegiance, Clear, Faulted, Header, Change, NexusAboveSeven, Ruling, Keeps, Changes}
 use Rattle.values.specs.Headers.{runAfter}
 use Rattle.rules.specs.Tasks.{isEnabled, same, whoseTurn, turnOf, isNamed}
 use Rattle.rules.specs.Rulings.{State, isClear, turn, fateOf}
@@ -19,7 +19,7 @@ use Rattle.rules.proofs.Fates.{isEnds}
 use Rattle.rules.proofs.Settled.{is-aca}
 use Rattle.rules.proofs.Held.{held-found}
 use Rattle.rules.proofs.TurnRule.{named-found}
-use Rattle.rules.proofs.Cases.{failing-run, enter-cases, completion-cases, other-cases}
+use Rattle.rules.proofs.Cases.{failing-run, enter-cases, finish-cases, finish-run, completion-cases, other-cases}
 use Rattle.rules.proofs.WellKept.{Tested}
 use Rattle.history.specs.History.{turnBy}
 
@@ -52,13 +52,10 @@ clear-is (Faulted f) e = not-both e refl
 
 -- the completed task ends
 finish-ends : (h : Header) (f : Finish) (t : Task) (b : Bool) → isEnds (fateOf ((finish h f t b) .sweep) t) ≡ true
-finish-ends h Good t b = rw (eq-eqb (t .nexus) (t .nexus) refl, eq-eqb (t .tag) (t .tag) refl)
-finish-ends h CheckCondition t b = rw (eq-eqb (t .nexus) (t .nexus) refl, eq-eqb (t .tag) (t .tag) refl)
-
-finish-run :
-    (h : Header) (f : Finish) (t : Task) (b : Bool) → (finish h f t b) .header .run ≡ cond b (runAfter (t .attribute) (h .run)) (h .run)
-finish-run h Good t b = refl
-finish-run h CheckCondition t b = refl
+finish-ends h f t b =
+    finish-cases (λ c. isEnds (fateOf (c .sweep) t) ≡ true) h f t b
+    (λ q. rw (eq-eqb (t .nexus) (t .nexus) refl, eq-eqb (t .tag) (t .tag) refl))
+    (λ q. rw (eq-eqb (t .nexus) (t .nexus) refl, eq-eqb (t .tag) (t .tag) refl))
 
 -- in an ACA the completed task is the ACA task, which leaves run
 aca-leaves-run :

@@ -18,7 +18,7 @@ use values::Task;
 use values::Top;
 ghost use mathlib.Core.Path.{_≡_};
 ghost use mathlib.Core.Option.{some};
-ghost use Rattle.rules.specs.Rules.{acaAfter};
+ghost use Rattle.rules.specs.Rules.{acaAfter, statusOf};
 ghost use Rattle.decide.specs.Searches.{taskIn};
 
 fn aca_after(t: Task, aca: Allegiance) -> Allegiance
@@ -32,6 +32,30 @@ fn aca_after(t: Task, aca: Allegiance) -> Allegiance
     )
 }
 
+fn status_of(f: Finish) -> u8
+    ensures { λ r. ⌜ r ≡ statusOf f ⌝ }
+{
+    match f {
+        Finish::Good => 0x00,
+        Finish::CheckCondition => 0x02,
+        Finish::Busy => 0x08,
+        Finish::ReservationConflict => 0x18,
+    }
+}
+
+fn ending(h: Header, f: Finish, t: Task, named: bool) -> Change
+    ensures { λ r. ⌜ r ≡ Rattle.rules.specs.Rules.ending h f t named ⌝ }
+{
+    let a = t.attribute;
+    let st = status_of(f);
+    Change {
+        sweep: Sweep::OneTask(t.nexus, t.tag, st),
+        joins: Joins::NoTask,
+        header: h.run_next(a, named),
+        notice: Notice::Quiet,
+    }
+}
+
 pub fn finish(h: Header, f: Finish, t: Task, named: bool) -> Change
     ensures { λ r. ⌜ r ≡ Rattle.rules.specs.Rules.finish h f t named ⌝ }
 {
@@ -40,18 +64,13 @@ pub fn finish(h: Header, f: Finish, t: Task, named: bool) -> Change
     let policy = h.policy;
     let qerr = policy.qerr;
     match f {
-        Finish::Good => Change {
-            sweep: Sweep::OneTask(t.nexus, t.tag, 0x00),
-            joins: Joins::NoTask,
-            header: h.run_next(a, named),
-            notice: Notice::Quiet,
-        },
         Finish::CheckCondition => Change {
             sweep: Sweep::FailedTask(t.nexus, t.tag, policy),
             joins: Joins::NoTask,
             header: h.run_next(a, named).with_aca(aca_after(t, aca)),
             notice: tell(t.nexus, Top::NoBit, tells_others(qerr, policy.tas)),
         },
+        _ => ending(h, f, t, named),
     }
 }
 

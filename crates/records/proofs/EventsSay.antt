@@ -10,12 +10,13 @@ use lib.ListN.{length, getD}
 use lib.Seq.{take-all}
 use borrow.Author.Tests.{eqb-true, eqb-false, ne-eqb, ltb-true, lt-ltb, le-ltb}
 use Rattle.laws.proofs.Bools.{and-true, or-true, not-both, cases, split}
-use Rattle.rules.specs.Types.{Asked, Known, NoneOfFour, Finish, Good, CheckCondition, Function, AbortTask, AbortTaskSet, ClearTaskSet, ClearAca, LogicalUnitReset, Unknown, Happening, PowerOn, HardReset, NexusLoss, Event, Command, Completion, Management, Condition}
+use Rattle.rules.specs.Types.{Asked, Known, NoneOfFour, Finish, Good, CheckCondition, Busy, ReservationConflict, Function, AbortTask, AbortTaskSet, ClearTaskSet, ClearAca, LogicalUnitReset, Unknown, Happening, PowerOn, HardReset, NexusLoss, Event, Command, Completion, Management, Condition}
+use Rattle.rules.specs.Rules.{statusOf}
 use Rattle.records.specs.Types.{EventRead, Readable, Unreadable}
 use Rattle.records.specs.Numbers.{flag, bitOf, tagIn, attributeFits}
 use Rattle.records.specs.Records.{eventSize, marked}
 use Rattle.records.specs.Tables.{Bytes}
-use Rattle.records.specs.Events.{readIf, askedFrom, commandFrom, finishFrom, completionFrom, functionFrom, managementFrom, happeningFrom, conditionFrom, eventFrom, eventOf, eventLine, askedNumber, secondNumber, finishNumber, functionNumber, functionTag, happeningNumber, happeningNexus, eventRecord, eventBytes, SpareAttribute, SpareFunction, Spare, IsEvent}
+use Rattle.records.specs.Events.{readIf, askedFrom, commandFrom, finishFrom, completionFrom, functionFrom, managementFrom, happeningFrom, conditionFrom, eventFrom, eventOf, eventLine, askedNumber, secondNumber, functionNumber, functionTag, happeningNumber, happeningNexus, eventRecord, eventBytes, SpareAttribute, SpareFunction, Spare, IsEvent}
 use Rattle.octets.proofs.Widths.{record-bytes}
 use Rattle.records.proofs.Values.{attribute-back, attribute-good, attribute-fits, flag-good}
 use Rattle.octets.proofs.Tags.{tag-good, tag-back}
@@ -38,9 +39,11 @@ command-back n a g t true false s = rw (asked-back a t s)
 command-back n a g t false true s = rw (asked-back a t s)
 command-back n a g t false false s = rw (asked-back a t s)
 
-completion-back : (n g : ℕ) (f : Finish) → completionFrom n (finishNumber f) 0 g ≡ Readable (Completion n g f)
+completion-back : (n g : ℕ) (f : Finish) → completionFrom n (statusOf f) 0 g ≡ Readable (Completion n g f)
 completion-back n g Good = refl
 completion-back n g CheckCondition = refl
+completion-back n g Busy = refl
+completion-back n g ReservationConflict = refl
 
 management-back :
     (n a g : ℕ) (f : Function) → SpareFunction a f → managementFrom n (functionNumber a f) 0 (functionTag g f) ≡ Readable (Management n f)
@@ -67,7 +70,7 @@ unfolding eventFrom
 event-back a g (Command c) s =
     line-read 1 (c .nexus) (askedNumber a (c .asked)) (secondNumber c) (c .tag)
     ∙ command-back (c .nexus) a (c .tag) (c .asked) (c .naca) (c .exempt) s
-event-back a g (Completion n t f) s = line-read 2 n (finishNumber f) 0 t ∙ completion-back n t f
+event-back a g (Completion n t f) s = line-read 2 n (statusOf f) 0 t ∙ completion-back n t f
 event-back a g (Management n f) s = line-read 3 n (functionNumber a f) 0 (functionTag g f) ∙ management-back n a g f s
 event-back a g (Condition h) s = line-read 4 (happeningNexus h) (happeningNumber h) 0 0 ∙ condition-back h
 
@@ -116,9 +119,16 @@ command-line : (n a b g : ℕ) (v : Event) → commandFrom n a b g ≡ Readable 
 command-line n a b g v =
     read-if (Line 1 n a b g) (λ q. (asked-good a .0, rw (asked-good a .1, second-good b (ltb-true b 4 q))))
 
-finish-good : (a : ℕ) → eqb a 0 || eqb a 2 ≡ true → finishNumber (finishFrom a) ≡ a
+finish-good : (a : ℕ) → eqb a 0x00 || eqb a 0x02 || eqb a 0x08 || eqb a 0x18 ≡ true → statusOf (finishFrom a) ≡ a
 finish-good a e =
-    split (eqb a 0) (λ q. rw (eqb-true a 0 q)) (λ q. rw (eqb-true a 2 (or-true _ _ e q)))
+    cases Is (eqb a 0x00) (λ q. sym (eqb-true a 0x00 q))
+    (λ q0.
+    cases Is (eqb a 0x02) (λ q. sym (eqb-true a 0x02 q))
+    (λ q2.
+    cases Is (eqb a 0x08) (λ q. sym (eqb-true a 0x08 q)) (λ q8. sym (eqb-true a 0x18 (or-true (eqb a 0x00 || eqb a 0x02 || eqb a 0x08) _ e (rw (q0, q2, q8)))))))
+  where
+    Is : Finish → Type 0
+    Is f = statusOf f ≡ a
 
 completion-line : (n a b g : ℕ) (v : Event) → completionFrom n a b g ≡ Readable v → Line 2 n a b g v
 completion-line n a b g v =

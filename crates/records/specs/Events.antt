@@ -4,7 +4,7 @@
 --   eventOf bytes       := the event of a string of bytes, or that there is none
 --   pieces n            := how many pieces n bytes of event records make: whole records, and a shorter last one
 --   eventLine k n a b g := the record of kind k, nexus n, first a, second b and tag g
---   askedNumber a, finishNumber, functionNumber a, happeningNumber   := the field first of a value, a where the value does not keep it
+--   askedNumber a, functionNumber a, happeningNumber   := the field first of a value, a where the value does not keep it
 --   secondNumber c, functionTag g f, happeningNexus h   := the field second of a COMMAND, tag of a function, nexus of a condition
 --   eventRecord a g v   := the record of the event v, with a for the field first and g for the tag where v does not keep them
 --   eventBytes v        := one record of the event v
@@ -18,6 +18,7 @@ use mathlib.Core.List.{List, _∷_}
 use lib.Dec.{eqb, ltb}
 use lib.ListN.{length, getD}
 use Rattle.rules.specs.Types.{Asked, Entry, Finish, Function, Happening, Event}
+use Rattle.rules.specs.Rules.{statusOf}
 use Rattle.octets.specs.Sizes.{kindOffset, senderOffset, firstOffset, secondOffset}
 use Rattle.records.specs.Types.{EventRead}
 use Rattle.records.specs.Numbers.{flag, bitOf, tagIn, tagBytes, attributeNumber, attributeFits, attributeFrom}
@@ -41,11 +42,12 @@ commandFrom n a b g =
 
 -- RULES 16.2: the status
 abbrev pub finishFrom : ℕ → Finish
-finishFrom a = cond (eqb a 0) Finish.Good Finish.CheckCondition
+finishFrom a = cond (eqb a 0x00) Finish.Good (cond (eqb a 0x02) Finish.CheckCondition (cond (eqb a 0x08) Finish.Busy Finish.ReservationConflict))
 
 -- RULES 16.2: COMPLETION
 abbrev pub completionFrom : ℕ → ℕ → ℕ → ℕ → EventRead
-completionFrom n a b g = readIf ((eqb a 0 || eqb a 2) && eqb b 0) (Event.Completion n g (finishFrom a))
+completionFrom n a b g =
+    readIf ((eqb a 0x00 || eqb a 0x02 || eqb a 0x08 || eqb a 0x18) && eqb b 0) (Event.Completion n g (finishFrom a))
 
 -- RULES 16.3: the function
 abbrev pub functionFrom : ℕ → ℕ → Function
@@ -99,11 +101,6 @@ askedNumber a Asked.NoneOfFour = a
 abbrev pub secondNumber : Entry → ℕ
 secondNumber c = flag (c .naca) + flag (c .exempt) * 2
 
--- RULES 16.2
-abbrev pub finishNumber : Finish → ℕ
-finishNumber Finish.Good = 0x00
-finishNumber Finish.CheckCondition = 0x02
-
 -- RULES 16.3: of an unknown function the event does not keep which
 abbrev pub functionNumber : ℕ → Function → ℕ
 functionNumber a (Function.AbortTask t) = 1
@@ -134,10 +131,10 @@ happeningNexus Happening.PowerOn = 0
 happeningNexus Happening.HardReset = 0
 happeningNexus (Happening.NexusLoss n) = n
 
--- RULES 16.1 to 16.6: of every event
+-- RULES 16.1 to 16.6: of every event; the field first of a COMPLETION is its status
 abbrev pub eventRecord : ℕ → ℕ → Event → List ℕ
 eventRecord a g (Event.Command c) = eventLine 1 (c .nexus) (askedNumber a (c .asked)) (secondNumber c) (c .tag)
-eventRecord a g (Event.Completion n t f) = eventLine 2 n (finishNumber f) 0 t
+eventRecord a g (Event.Completion n t f) = eventLine 2 n (statusOf f) 0 t
 eventRecord a g (Event.Management n f) = eventLine 3 n (functionNumber a f) 0 (functionTag g f)
 eventRecord a g (Event.Condition h) = eventLine 4 (happeningNexus h) (happeningNumber h) 0 0
 

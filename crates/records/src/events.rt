@@ -63,8 +63,10 @@ fn finish_from(a: u8) -> Finish
     ensures { λ y. ⌜ y ≡ finishFrom a ⌝ }
 {
     match a {
-        0 => Finish::Good,
-        _ => Finish::CheckCondition,
+        0x00 => Finish::Good,
+        0x02 => Finish::CheckCondition,
+        0x08 => Finish::Busy,
+        _ => Finish::ReservationConflict,
     }
 }
 
@@ -72,7 +74,7 @@ fn completion_from(n: u8, a: u8, b: u8, g: Tag) -> EventRead
     ensures { λ y. ⌜ y ≡ completionFrom n a b g ⌝ }
 {
     read_if(
-        ((a == 0) | (a == 2)) & (b == 0),
+        ((a == 0x00) | (a == 0x02) | (a == 0x08) | (a == 0x18)) & (b == 0),
         Event::Completion(n, g, finish_from(a)),
     )
 }

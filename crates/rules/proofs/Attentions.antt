@@ -12,15 +12,15 @@ use borrow.Author.Tests.{not-true, ltb-true, lt-ltb, eqb-true, eqb-false, eq-eqb
 use Rattle.laws.specs.Lists.{any, first}
 use Rattle.laws.proofs.Bools.{and-true, cases, split}
 use Rattle.laws.proofs.Lists.{any-less, first-passes, first-any, first-none}
-use Rattle.rules.specs.Types.{Task, Entry, Finish, Good, CheckCondition, Function, AbortTask, AbortTaskSet, ClearTaskSet, ClearAca, LogicalUnitReset, Unknown, Happening, PowerOn, HardReset, NexusLoss, Event, Command, Completion, Management, Condition, Allegiance, Clear, Faulted, Pending, Bit, ClearedBit, Top, NoBit, Highest, EndedAtEntry, Sense, Sweep, ClearedBy, FailedTask, Done, Ruling, Changes}
+use Rattle.rules.specs.Types.{Task, Entry, Finish, CheckCondition, Function, AbortTask, AbortTaskSet, ClearTaskSet, ClearAca, LogicalUnitReset, Unknown, Happening, PowerOn, HardReset, NexusLoss, Event, Command, Completion, Management, Condition, Allegiance, Clear, Faulted, Pending, Bit, ClearedBit, Top, NoBit, Highest, EndedAtEntry, Sense, Sweep, ClearedBy, FailedTask, Done, Ruling, Changes}
 use Rattle.rules.specs.Tasks.{nexuses, acaTask, ofNexus, same, isEnabled, enabledTask, isNamed}
 use Rattle.rules.specs.Bits.{noPending, top, senseFor, afterPowerOn, afterHardReset, afterUnitReset}
 use Rattle.rules.specs.Rulings.{State, isClear, pendingOf, turn, lost, alsoByQerr, fateOf, answerOf, ruled}
-use Rattle.rules.specs.Rules.{checkCondition, check2, bitToReport, finish, complete, clearing, manage, happen, nexusOf, ruleFor, ruling, step}
+use Rattle.rules.specs.Rules.{checkCondition, check2, bitToReport, statusOf, finish, complete, clearing, manage, happen, nexusOf, ruleFor, ruling, step}
 use Rattle.rules.specs.Well.{WellFormed, distinct}
 use Rattle.rules.specs.Attentions.{ranks, isSet, highest, Attention, Unmoved, Gets, Reports, bitAfter, passesAca, reportsBit, reportedBy, clearedBy, failsAtEntry, completes, endsOthers, byFunction, byHappening, caused, attention}
 use Rattle.rules.proofs.Distinct.{same-parts}
-use Rattle.rules.proofs.Cases.{stop, check-cases, failing-cases, check2-none}
+use Rattle.rules.proofs.Cases.{stop, check-cases, failing-cases, check2-none, finish-cases}
 use Rattle.rules.proofs.WellKept.{Tested}
 use Rattle.rules.proofs.WellSays.{says-tested}
 use Rattle.rules.proofs.FieldErrors.{topIs, top-first, qerr-all-ends}
@@ -215,12 +215,7 @@ module _ (s : State) (i : ℕ) (w : Tested s) (low : i < nexuses) where
       → pendingOf (ruled s (complete (s .header) (first (same n g) (s .tasks)) f named)) i
       ≡ changed (caused s (Completion n g f) i) (pendingOf s i)
   unfolding complete
-  complete-bits n g Good named = go (first (same n g) (s .tasks))
-    where
-      go : (o : Option Task) → pendingOf (ruled s (complete (s .header) o Good named)) i ≡ pendingOf s i
-      go none = refl
-      go (some t) = cases (λ r. pendingOf (ruled s r) i ≡ pendingOf s i) (isEnabled (t .state)) (λ e. refl) (λ e. refl)
-  complete-bits n g CheckCondition named = rw (enabled-found n g (s .tasks) (w .apart)) (go (first (same n g) (s .tasks)) refl)
+  complete-bits n g f named = rw (enabled-found n g (s .tasks) (w .apart)) (go (first (same n g) (s .tasks)) refl)
     where
       failed :
           (t : Task)
@@ -233,13 +228,20 @@ module _ (s : State) (i : ℕ) (w : Tested s) (low : i < nexuses) where
 
       go :
           (o : Option Task) → first (same n g) (s .tasks) ≡ o
-          → pendingOf (ruled s (complete (s .header) o CheckCondition named)) i
-          ≡ changed (cond (enabledOf o && endsOthers (s .header .policy .qerr)) (clearedBy s n i) Unmoved) (pendingOf s i)
+          → pendingOf (ruled s (complete (s .header) o f named)) i
+          ≡ changed (cond (enabledOf o && eqb (statusOf f) 0x02 && endsOthers (s .header .policy .qerr)) (clearedBy s n i) Unmoved) (pendingOf s i)
       go none e = refl
       go (some t) e =
           split (isEnabled (t .state))
-          (λ k. rw (k, ← same-parts n g t (first-passes (same n g) (s .tasks) t e) .0) (failed t))
+          (λ k.
+          rw k
+          (finish-cases (λ c. pendingOf (ruled s (Changes Done c)) i ≡ changed (by (eqb (statusOf f) 0x02)) (pendingOf s i)) (s .header) f t named
+          (λ q. rw q)
+          (λ q. rw (q, ← same-parts n g t (first-passes (same n g) (s .tasks) t e) .0) (failed t))))
           (λ k. rw k)
+        where
+          by : Bool → Attention
+          by b = cond (b && endsOthers (s .header .policy .qerr)) (clearedBy s n i) Unmoved
 
   pending-after : (e : Event) → pendingOf (step s e) i ≡ changed (attention s e i) (pendingOf s i)
   unfolding step ruling ruleFor attention
@@ -260,20 +262,20 @@ pub bits-after :
 bits-after s e i b w l =
     rw (pending-after s i (says-tested s w) l e) (changed-bits (attention s e i) (pendingOf s i) b)
 
--- the causing nexus is not told of its own aborts: at its CLEAR TASK SET and at the CHECK CONDITION of its task each of its bits is as before
+-- the causing nexus is not told of its own aborts: at its CLEAR TASK SET and at the end of its task, whatever the status, each of its bits is as before
 pub causing-nexus-never-told :
-    (s : State) (n g : ℕ) (b : Bit) → WellFormed s → n < nexuses
+    (s : State) (n g : ℕ) (f : Finish) (b : Bit) → WellFormed s → n < nexuses
     → (isSet (pendingOf (step s (Management n ClearTaskSet)) n) b ≡ isSet (pendingOf s n) b)
-    × (isSet (pendingOf (step s (Completion n g CheckCondition)) n) b ≡ isSet (pendingOf s n) b)
+    × (isSet (pendingOf (step s (Completion n g f)) n) b ≡ isSet (pendingOf s n) b)
 unfolding attention
-causing-nexus-never-told s n g b w l = (
+causing-nexus-never-told s n g f b w l = (
   rw (lt-ltb n nexuses l, cleared) at (bits-after s (Management n ClearTaskSet) n b w l),
-  rw (lt-ltb n nexuses l, failed) at (bits-after s (Completion n g CheckCondition) n b w l),
+  rw (lt-ltb n nexuses l, ended) at (bits-after s (Completion n g f) n b w l),
 )
   where
     cleared : clearedBy s n n ≡ Unmoved
     cleared = rw (eq-eqb n n refl, and-off (not (s .header .policy .tas)))
 
-    failed : caused s (Completion n g CheckCondition) n ≡ Unmoved
-    failed =
-        cases (λ a. a ≡ Unmoved) (completes s n g && endsOthers (s .header .policy .qerr)) (λ e. cleared) (λ e. refl)
+    ended : caused s (Completion n g f) n ≡ Unmoved
+    ended =
+        cases (λ a. a ≡ Unmoved) (completes s n g && eqb (statusOf f) 0x02 && endsOthers (s .header .policy .qerr)) (λ e. cleared) (λ e. refl)

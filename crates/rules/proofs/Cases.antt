@@ -1,19 +1,19 @@
 -- What the ruling on an event can come to, as laws for whoever argues by cases.
 use Prim.Native.Nat.{ℕ, _<_, _≤_}
 use mathlib.Core.Bool.{Bool, true, false, cond, _&&_, not}
-use mathlib.Core.Path.{_≡_, refl, sym}
+use mathlib.Core.Path.{_≡_, refl, ap, sym}
 use mathlib.Core.List.{List, [], _∷_}
 use mathlib.Core.Option.{Option, none, some}
 use lib.Dec.{eqb, ltb, leb}
 use borrow.Author.Tests.{ltb-true, lt-ltb, le-ltb, not-true, not-false}
 use Rattle.laws.specs.Lists.{any, first}
 use Rattle.laws.proofs.Bools.{and-true, cases, none-some, some-is}
-use Rattle.rules.specs.Types.{Task, Entry, Finish, Function, Happening, Event, Command, Completion, Management, Condition, Allegiance, Clear, Faulted, Header, Pending, Bit, Top, NoBit, Highest, Sweep, Nobody, NexusTasks, NoTask, Change, Sense, Done, NexusAboveSeven, NoSuchTask, NotEnabled, Ruling, Keeps, Changes}
-use Rattle.values.specs.Headers.{withAca}
+use Rattle.rules.specs.Types.{Task, Entry, Finish, Good, CheckCondition, Busy, ReservationConflict, Function, Happening, Event, Command, Completion, Management, Condition, Allegiance, Clear, Faulted, Header, Pending, Bit, Top, NoBit, Highest, Sweep, Nobody, NexusTasks, NoTask, Change, Sense, Done, NexusAboveSeven, NoSuchTask, NotEnabled, Ruling, Keeps, Changes}
+use Rattle.values.specs.Headers.{withAca, runAfter}
 use Rattle.rules.specs.Tasks.{places, nexuses, isEnabled, acaTask, same, isNamed}
 use Rattle.rules.specs.Bits.{senseFor}
 use Rattle.rules.specs.Rulings.{State, isClear, pendingOf, turn, alsoByQerr}
-use Rattle.rules.specs.Rules.{sense, endedWith, tellsOthers, telling, acaByNaca, failing, checkCondition, onlyIf, asksAca, check2, bitToReport, check3, badAttribute, accepting, firstThatRules, checks, enter, finish, complete, manage, happen, nexusOf, ruleFor, ruling}
+use Rattle.rules.specs.Rules.{sense, endedWith, tellsOthers, telling, acaByNaca, failing, checkCondition, onlyIf, asksAca, check2, bitToReport, check3, badAttribute, accepting, firstThatRules, checks, enter, statusOf, ending, finish, complete, manage, happen, nexusOf, ruleFor, ruling}
 
 -- The checks of a command -----------------------------------------------------------------------------------------------------------------
 
@@ -171,6 +171,23 @@ check2-none f c aca =
     in
     (h, o .0, not-true _ (o .1)))
     (λ h e. none-some _ (sym e))
+
+-- all statuses but 02h are one case
+pub finish-cases :
+    (P : Change → Type 0) (h : Header) (f : Finish) (t : Task) (b : Bool) → (eqb (statusOf f) 0x02 ≡ false → P (ending h f t b))
+    → (f ≡ CheckCondition → P (finish h CheckCondition t b)) → P (finish h f t b)
+finish-cases P h Good t b only fails = only refl
+finish-cases P h CheckCondition t b only fails = fails refl
+finish-cases P h Busy t b only fails = only refl
+finish-cases P h ReservationConflict t b only fails = only refl
+
+pub finish-ending : (h : Header) (f : Finish) (t : Task) (b : Bool) → (statusOf f ≡ 0x02 → ⊥) → finish h f t b ≡ ending h f t b
+finish-ending h f t b other = finish-cases (λ c. c ≡ ending h f t b) h f t b (λ q. refl) (λ q. absurd (other (ap statusOf q)))
+
+pub finish-run :
+    (h : Header) (f : Finish) (t : Task) (b : Bool) → (finish h f t b) .header .run ≡ cond b (runAfter (t .attribute) (h .run)) (h .run)
+finish-run h f t b =
+    finish-cases (λ c. c .header .run ≡ cond b (runAfter (t .attribute) (h .run)) (h .run)) h f t b (λ q. refl) (λ q. refl)
 
 -- a completion: refused by 4, 5 or 6, or the enabled task of that nexus and tag ends
 pub completion-cases :

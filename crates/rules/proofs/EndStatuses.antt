@@ -8,11 +8,11 @@ use lib.Dec.{eqb, ltb}
 use lib.ListN.{length}
 use Rattle.laws.specs.Lists.{one-if, count}
 use Rattle.laws.proofs.Bools.{cases}
-use Rattle.rules.specs.Types.{Task, Entry, Top, NoBit, Highest, Policy, Qerr, EndNone, EndAll, EndNexus, Finish, Good, CheckCondition, Function, AbortTask, AbortTaskSet, ClearTaskSet, ClearAca, LogicalUnitReset, Unknown, Happening, PowerOn, HardReset, NexusLoss, Event, Allegiance, Clear, Faulted, Done, Fate, Stays, Ends, Ended, Sweep, Nobody, OneTask, NexusTasks, AcaTask, AllTasks, ClearedBy, FailedTask, Ruling, Keeps, Changes}
+use Rattle.rules.specs.Types.{Task, Entry, Top, NoBit, Highest, Policy, Qerr, EndNone, EndAll, EndNexus, Finish, Good, CheckCondition, Busy, ReservationConflict, Function, AbortTask, AbortTaskSet, ClearTaskSet, ClearAca, LogicalUnitReset, Unknown, Happening, PowerOn, HardReset, NexusLoss, Event, Allegiance, Clear, Faulted, Done, Fate, Stays, Ends, Ended, Sweep, Nobody, OneTask, NexusTasks, AcaTask, AllTasks, ClearedBy, FailedTask, Ruling, Keeps, Changes}
 use Rattle.rules.specs.Tasks.{acaTask, ofNexus, same}
 use Rattle.rules.specs.Rulings.{State, endIf, abortedBy, alsoByQerr, fateByQerr, orElse, fateOf, endedFrom, reportOf}
-use Rattle.rules.specs.Rules.{failing, finish, clearing, manage, happen, ruling, report}
-use Rattle.rules.proofs.Cases.{stop, check-cases, failing-cases, completion-cases, other-cases}
+use Rattle.rules.specs.Rules.{failing, statusOf, finish, clearing, manage, happen, ruling, report}
+use Rattle.rules.proofs.Cases.{stop, check-cases, failing-cases, finish-cases, completion-cases, other-cases}
 use Rattle.rules.proofs.Ruled.{report-ruled}
 
 abbrev pub isByte : ℕ → Bool
@@ -62,6 +62,12 @@ byte-fate (FailedTask n g p) t e = go (same n g t)
     go true = refl
     go false = byte-qerr (p .qerr) p n t
 
+byte-status : (f : Finish) → isByte (statusOf f) ≡ true
+byte-status Good = refl
+byte-status CheckCondition = refl
+byte-status Busy = refl
+byte-status ReservationConflict = refl
+
 abbrev byteRuling : Ruling → Bool
 byteRuling (Keeps a) = true
 byteRuling (Changes a c) = byteSweep (c .sweep)
@@ -88,8 +94,7 @@ byte-ruling s =
         (λ f a. e)
 
     finishes : (f : Finish) (t : Task) (b : Bool) → byteRuling (Changes Done (finish (s .header) f t b)) ≡ true
-    finishes Good t b = refl
-    finishes CheckCondition t b = refl
+    finishes f t b = finish-cases (λ c. byteRuling (Changes Done c) ≡ true) (s .header) f t b (λ q. byte-status f) (λ q. refl)
 
     clears : (n : ℕ) (a : Allegiance) → byteRuling (clearing (s .header) n a) ≡ true
     clears n Clear = refl

@@ -8,13 +8,13 @@ use native.Mathlib.Omega.{arith}
 use lib.Dec.{eqb}
 use lib.ListN.{length, length-append}
 use Rattle.laws.proofs.Bools.{not-both, cases}
-use Rattle.rules.specs.Types.{Dormant, Enabled, Blocked, Task, Finish, Good, CheckCondition, Function, AbortTask, AbortTaskSet, ClearTaskSet, ClearAca, LogicalUnitReset, Unknown, Happening, PowerOn, HardReset, NexusLoss, Event, Command, Completion, Management, Condition, Allegiance, Clear, Faulted, Header, Fate, Stays, Ends, Ruling, Keeps, Changes}
+use Rattle.rules.specs.Types.{Dormant, Enabled, Blocked, Task, Finish, Function, AbortTask, AbortTaskSet, ClearTaskSet, ClearAca, LogicalUnitReset, Unknown, Happening, PowerOn, HardReset, NexusLoss, Event, Command, Completion, Management, Condition, Allegiance, Clear, Faulted, Header, Fate, Stays, Ends, Ruling, Keeps, Changes}
 use Rattle.rules.specs.Rulings.{State, isClear, kept, lost, fateOf, fatesOf, newcomers, joinsOf, ruled, taskName, endedName}
 use Rattle.rules.specs.Rules.{finish, clearing, manage, happen, ruling, step, report}
 use Rattle.rules.specs.Well.{Stands}
 use Rattle.rules.proofs.Fates.{map-lost, report-names}
 use Rattle.rules.proofs.Distinct.{blockedTask}
-use Rattle.rules.proofs.Cases.{enter-cases, failing-joins, completion-cases, other-cases}
+use Rattle.rules.proofs.Cases.{enter-cases, failing-joins, finish-cases, completion-cases, other-cases}
 
 -- The report -------------------------------------------------------------------------------------------------------------------------------
 
@@ -98,8 +98,7 @@ isCommand (Management n f) = false
 isCommand (Condition c) = false
 
 finish-joins : (h : Header) (f : Finish) (t : Task) (b : Bool) → newcomers ((finish h f t b) .joins) ≡ []
-finish-joins h Good t b = refl
-finish-joins h CheckCondition t b = refl
+finish-joins h f t b = finish-cases (λ c. newcomers (c .joins) ≡ []) h f t b (λ q. refl) (λ q. refl)
 
 manage-joins : (h : Header) (n : ℕ) (f : Function) → joinsOf (manage h n f) ≡ []
 unfolding manage

@@ -10,7 +10,7 @@ use borrow.Author.Tests.{lt-ltb, eqb-true, leb-false, lt-leb}
 use Rattle.laws.specs.Lists.{any, first}
 use Rattle.laws.proofs.Bools.{not-both, cases}
 use Rattle.laws.proofs.Lists.{any-append, any-less, any-never, first-passes}
-use Rattle.rules.specs.Types.{Attribute, Simple, HeadOfQueue, Ordered, Aca, Task, Asked, Known, NoneOfFour, Entry, Finish, Good, CheckCondition, Function, AbortTask, AbortTaskSet, ClearTaskSet, ClearAca, LogicalUnitReset, Unknown, Happening, PowerOn, HardReset, NexusLoss, Event, Policy, Allegiance, Clear, Faulted, Pending, Top, Fate, Sweep, AcaTask, AllTasks, FailedTask, NexusTasks, Notice, Quiet, UnitWasReset, HardWasReset, PowerCameOn, NoTask, Ruling, Keeps, Changes}
+use Rattle.rules.specs.Types.{Attribute, Simple, HeadOfQueue, Ordered, Aca, Task, Asked, Known, NoneOfFour, Entry, Finish, CheckCondition, Function, AbortTask, AbortTaskSet, ClearTaskSet, ClearAca, LogicalUnitReset, Unknown, Happening, PowerOn, HardReset, NexusLoss, Event, Policy, Allegiance, Clear, Faulted, Pending, Top, Fate, Sweep, AcaTask, AllTasks, FailedTask, NexusTasks, Notice, Quiet, UnitWasReset, HardWasReset, PowerCameOn, NoTask, Ruling, Keeps, Changes}
 use Rattle.values.specs.Headers.{runAfter, withAca, withRun}
 use Rattle.rules.specs.Tasks.{places, nexuses, isAca, isEnabled, acaTask, ofNexus, same}
 use Rattle.rules.specs.Rulings.{State, isClear, endIf, kept, alsoByQerr, fateByQerr, orElse, fateOf, ruled}
@@ -20,7 +20,7 @@ use Rattle.rules.proofs.Fates.{isEnds, any-kept, gone}
 use Rattle.rules.proofs.Distinct.{same-parts}
 use Rattle.rules.proofs.Settled.{settled-ordinary}
 use Rattle.rules.proofs.Held.{held-found, held-one, held-faulted}
-use Rattle.rules.proofs.Cases.{enter-cases, failing-cases, check2-none, completion-cases, other-cases}
+use Rattle.rules.proofs.Cases.{enter-cases, failing-cases, check2-none, finish-cases, completion-cases, other-cases}
 use Rattle.rules.proofs.WellKept.{Tested, Allowed, Fair, tested-ruled}
 
 abbrev FairR : State → Ruling → Type 0
@@ -152,7 +152,7 @@ fair-finish :
     (s : State) (n g : ℕ) (f : Finish) (t : Task) (named : Bool) → Tested s → n < nexuses → first (same n g) (s .tasks) ≡ some t
     → isEnabled (t .state) ≡ true → Fair s (finish (s .header) f t named)
 fair-finish s n g f t named w l h k =
-    go f
+    finish-cases (Fair s) (s .header) f t named (λ q. fair-same s _ _ Quiet w runs) (λ q. failed)
   where
     q : (t .nexus ≡ n) × (t .tag ≡ g)
     q = same-parts n g t (first-passes (same n g) (s .tasks) t h)
@@ -163,9 +163,8 @@ fair-finish s n g f t named w l h k =
     fs : List Fate
     fs = map (fateOf (FailedTask (t .nexus) (t .tag) (s .header .policy))) (s .tasks)
 
-    go : (f : Finish) → Fair s (finish (s .header) f t named)
-    go Good = fair-same s _ _ Quiet w runs
-    go CheckCondition =
+    failed : Fair s (finish (s .header) CheckCondition t named)
+    failed =
         record {
           run = runs;
           fault =

@@ -10,7 +10,7 @@ use lib.ListN.{length, getD, replicate}
 use borrow.Author.Tests.{lt-ltb, eq-eqb}
 use Rattle.laws.specs.Lists.{any, first}
 use Rattle.laws.proofs.Bools.{not-both, cases}
-use Rattle.rules.specs.Types.{Attribute, Simple, HeadOfQueue, Ordered, Aca, Task, Finish, Good, CheckCondition, Management, Condition, AbortTask, AbortTaskSet, PowerOn, Allegiance, Clear, Header, Pending, Bit, Top, NoBit, Highest, AllTasks, FailedTask, Policy, EndAll}
+use Rattle.rules.specs.Types.{Attribute, Simple, HeadOfQueue, Ordered, Aca, Task, Finish, Management, Condition, AbortTask, AbortTaskSet, PowerOn, Allegiance, Clear, Header, Pending, Bit, Top, NoBit, Highest, AllTasks, FailedTask, Policy, EndAll}
 use Rattle.values.specs.Headers.{lasting, lastingWith, freshHeader, runAfter}
 use Rattle.rules.specs.Tasks.{nexuses, isPlain, same, withState, eligible, enabledIf, settleFrom, restate}
 use Rattle.rules.specs.Bits.{noPending, top, afterPowerOn}
@@ -18,6 +18,7 @@ use Rattle.rules.specs.Rulings.{State, fresh, endIf, kept, abortedBy, or
 use Rattle.rules.specs.Rules.{finish, manage, happen, ruleFor, ruling, step}
 use Rattle.rules.specs.Well.{WellFormed}
 use Rattle.rules.specs.Attentions.{ranks, isSet}
+use Rattle.rules.proofs.Cases.{finish-cases}
 use Rattle.rules.proofs.Fates.{isEnds, all-end, ended-gone}
 use Rattle.rules.proofs.Distinct.{any-restate}
 
@@ -55,8 +56,8 @@ plain-resets Aca run e = not-both e refl
 
 -- RULES 1.15: to 0 if SIMPLE or ORDERED
 pub turn-resets-run : (h : Header) (f : Finish) (t : Task) → isPlain (t .attribute) ≡ true → (finish h f t true) .header .run ≡ 0
-turn-resets-run h Good t e = plain-resets (t .attribute) (h .run) e
-turn-resets-run h CheckCondition t e = plain-resets (t .attribute) (h .run) e
+turn-resets-run h f t e =
+    finish-cases (λ c. c .header .run ≡ 0) h f t true (λ q. plain-resets (t .attribute) (h .run) e) (λ q. plain-resets (t .attribute) (h .run) e)
 
 abbrev pub topIs : Option Bit → Top
 topIs none = NoBit

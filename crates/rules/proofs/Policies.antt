@@ -5,18 +5,17 @@ use mathlib.Core.Path.{_≡_, refl}
 use lib.Dec.{eqb}
 use Rattle.laws.proofs.Bools.{cases}
 use Rattle.values.specs.Headers.{lasting}
-use Rattle.rules.specs.Types.{Task, Entry, Finish, Good, CheckCondition, Function, AbortTask, AbortTaskSet, ClearTaskSet, ClearAca, LogicalUnitReset, Unknown, Happening, PowerOn, HardReset, NexusLoss, Event, Allegiance, Clear, Faulted, Top, Sweep, Changes, Done, Ruling}
+use Rattle.rules.specs.Types.{Task, Entry, Finish, Function, AbortTask, AbortTaskSet, ClearTaskSet, ClearAca, LogicalUnitReset, Unknown, Happening, PowerOn, HardReset, NexusLoss, Event, Allegiance, Clear, Faulted, Top, Sweep, Changes, Done, Ruling}
 use Rattle.rules.specs.Rulings.{State, ruled}
 use Rattle.rules.specs.Rules.{failing, finish, clearing, manage, happen, ruling}
-use Rattle.rules.proofs.Cases.{enter-cases, failing-cases, completion-cases, other-cases}
+use Rattle.rules.proofs.Cases.{enter-cases, failing-cases, finish-cases, completion-cases, other-cases}
 
 module _ (s : State) where
   abbrev survives : Ruling → Type 0
   survives r = lasting (ruled s r .header) ≡ lasting (s .header)
 
   by-finish : (f : Finish) (t : Task) (named : Bool) → survives (Changes Done (finish (s .header) f t named))
-  by-finish Good t named = refl
-  by-finish CheckCondition t named = refl
+  by-finish f t named = finish-cases (λ c. survives (Changes Done c)) (s .header) f t named (λ q. refl) (λ q. refl)
 
   by-failing : (c : Entry) (w : Sweep) (o : Top) → survives (Changes Done (failing (s .header .aca) (s .header) c w o))
   by-failing c w o = failing-cases (λ d. survives (Changes Done d)) (s .header) c w o (λ a. refl) (λ f a. refl)

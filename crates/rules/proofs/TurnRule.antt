@@ -181,7 +181,7 @@ named-enabled s x w e = go (s .header .aca) refl e
         (λ b l. first-passes enabledTask (s .tasks) x l)
         k
 
--- the named task can be completed, with GOOD or with CHECK CONDITION, ACA or not
+-- the named task can be completed, with any of the four statuses, ACA or not
 pub named-completes :
     (s : State) (n g : ℕ) (f : Finish) → WellFormed s → isNamed n g (turn s) ≡ true → answer s (Completion n g f) ≡ Done
 unfolding answer ruling ruleFor complete

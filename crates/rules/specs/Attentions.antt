@@ -18,10 +18,10 @@ use mathlib.Core.List.{List, [], _∷_}
 use mathlib.Core.Option.{Option, none, some}
 use lib.Dec.{eqb, ltb}
 use Rattle.laws.specs.Lists.{any, first}
-use Rattle.rules.specs.Types.{Task, Entry, Finish, Function, Happening, Event, Qerr, Allegiance, Pending, Bit}
+use Rattle.rules.specs.Types.{Task, Entry, Function, Happening, Event, Qerr, Allegiance, Pending, Bit}
 use Rattle.rules.specs.Tasks.{nexuses, acaTask, ofNexus, same, enabledTask}
 use Rattle.rules.specs.Rulings.{State, isClear, pendingOf}
-use Rattle.rules.specs.Rules.{asksAca, badAttribute, nexusOf}
+use Rattle.rules.specs.Rules.{asksAca, badAttribute, statusOf, nexusOf}
 
 -- By rank ----------------------------------------------------------------------------------------------------------------------------------
 
@@ -117,13 +117,13 @@ byHappening Happening.PowerOn i = Gets Bit.PowerBit
 byHappening Happening.HardReset i = Gets Bit.HardBit
 byHappening (Happening.NexusLoss n) i = cond (eqb i n) (Gets Bit.LossBit) Unmoved
 
--- RULES 11.2 to 11.4: GOOD ends no other task; a CHECK CONDITION, at entry or of a task, reaches another nexus by QERR alone
+-- RULES 11.2 to 11.4: a CHECK CONDITION, at entry or of a task, reaches another nexus by QERR alone; a completion with another status gives no bit
 abbrev pub caused : State → Event → ℕ → Attention
 caused s (Event.Command c) i =
     cond (eqb i (c .nexus)) (reportedBy s c)
     (cond (failsAtEntry s c && endsOthers (s .header .policy .qerr)) (clearedBy s (c .nexus) i) Unmoved)
-caused s (Event.Completion n g Finish.Good) i = Unmoved
-caused s (Event.Completion n g Finish.CheckCondition) i = cond (completes s n g && endsOthers (s .header .policy .qerr)) (clearedBy s n i) Unmoved
+caused s (Event.Completion n g f) i =
+    cond (completes s n g && eqb (statusOf f) 0x02 && endsOthers (s .header .policy .qerr)) (clearedBy s n i) Unmoved
 caused s (Event.Management n f) i = byFunction s n f i
 caused s (Event.Condition c) i = byHappening c i
 

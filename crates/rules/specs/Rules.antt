@@ -14,7 +14,9 @@
 --                               ACA task is here; and the pending bits p of its nexus
 --   byChecks cs h c          := the ruling on the command c by the checks cs: that of the first that rules, else it is accepted
 --   enter h c here aca p     := the ruling on the command c, by the same
---   finish h f t itsTurn     := the change when the enabled task t ends by f; itsTurn: it is the one whose turn it is
+--   statusOf f               := the status byte of a completion by f
+--   ending h f t itsTurn     := the change where f only ends the enabled task t; itsTurn: it is the one whose turn it is
+--   finish h f t itsTurn     := the change when t ends by f, whichever it is
 --   complete h o f itsTurn   := the ruling on a completion, by the task o of that nexus and tag, if there is one
 --   manage h n f, happen h c := the ruling on the function f from nexus n; on a condition
 --   nexusOf e                := the nexus of the event (0 for power on and hard reset)
@@ -160,10 +162,23 @@ enter h c here aca p = byChecks (checks h c here aca p) h c
 abbrev pub acaAfter : Task → Allegiance → Allegiance
 acaAfter t a = acaByNaca (t .naca) (t .nexus) (cond (acaTask t) Allegiance.Clear a)
 
--- RULES 6.5 to 6.7: GOOD, CHECK CONDITION
+-- RULES 6.5, 6.6, 6.9 and 16.2: the status that a completion brings, and that the report of its task has
+abbrev pub statusOf : Finish → ℕ
+statusOf Finish.Good = 0x00
+statusOf Finish.CheckCondition = 0x02
+statusOf Finish.Busy = 0x08
+statusOf Finish.ReservationConflict = 0x18
+
+-- RULES 6.5 and 6.9: the task ends, and run is as ever; no QERR, and the ACA as it was
+abbrev pub ending : Header → Finish → Task → Bool → Change
+ending h f t itsTurn =
+    record { sweep = Sweep.OneTask (t .nexus) (t .tag) (statusOf f); joins = Joins.NoTask; header = runNext h (t .attribute) itsTurn; notice = Notice.Quiet }
+
+-- RULES 6.5 to 6.7 and 6.9: every status
 abbrev pub finish : Header → Finish → Task → Bool → Change
-finish h Finish.Good t itsTurn =
-    record { sweep = Sweep.OneTask (t .nexus) (t .tag) 0x00; joins = Joins.NoTask; header = runNext h (t .attribute) itsTurn; notice = Notice.Quiet }
+finish h Finish.Good t itsTurn = ending h Finish.Good t itsTurn
+finish h Finish.Busy t itsTurn = ending h Finish.Busy t itsTurn
+finish h Finish.ReservationConflict t itsTurn = ending h Finish.ReservationConflict t itsTurn
 finish h Finish.CheckCondition t itsTurn =
     record {
       sweep = Sweep.FailedTask (t .nexus) (t .tag) (h .policy);

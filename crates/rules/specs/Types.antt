@@ -4,7 +4,7 @@ pub use Rattle.values.specs.declared.TaskState.{TaskState, the-variants.Dormant
 pub use Rattle.values.specs.declared.Task.{Task}
 pub use Rattle.values.specs.declared.Asked.{Asked, the-variants.Known, the-variants.NoneOfFour}
 pub use Rattle.values.specs.declared.Entry.{Entry}
-pub use Rattle.values.specs.declared.Finish.{Finish, the-variants.Good, the-variants.CheckCondition}
+pub use Rattle.values.specs.declared.Finish.{Finish, the-variants.Good, the-variants.CheckCondition, the-variants.Busy, the-variants.ReservationConflict}
 pub use Rattle.values.specs.declared.Function.{Function, the-variants.AbortTask, the-variants.AbortTaskSet, the-variants.ClearTaskSet}
 pub use Rattle.values.specs.declared.Function.{the-variants.ClearAca, the-variants.LogicalUnitReset, the-variants.Unknown}
 pub use Rattle.values.specs.declared.Happening.{Happening, the-variants.PowerOn, the-variants.HardReset, the-variants.NexusLoss}

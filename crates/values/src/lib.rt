@@ -94,6 +94,8 @@ pub struct Entry {
 pub enum Finish {
     Good,
     CheckCondition,
+    Busy,
+    ReservationConflict,
 }
 
 // RULES 16.3: what a MANAGEMENT asks for; ABORT TASK has its own tag.

@@ -7,4 +7,6 @@ finish-from-spec =
     tie.close
     (tie.spec
     (λ c. simp (c .match .keys1))
-    (λ c. simp (ne-eqb _ _ (c .match .rest .1))))
+    (λ c. simp (c .match .keys2))
+    (λ c. simp (c .match .keys3))
+    (λ c. simp (ne-eqb _ _ (c .match .rest .1), ne-eqb _ _ (c .match .rest .0 .1), ne-eqb _ _ (c .match .rest .0 .0 .1))))
