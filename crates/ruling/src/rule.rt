@@ -53,8 +53,9 @@ fn rule_command(t: &[u8], h: Header, c: Entry) -> Ruling
 {
     let n = h.count as usize;
     let aca = h.aca;
+    let aca_here = has_aca(t, n, aca);
     let here = is_here(search(t, n, Want::TheTask(c.nexus, c.tag)));
-    enter(h, c, here, has_aca(t, n, aca), pending_at(t, c.nexus))
+    enter(h, c, here, aca_here, pending_at(t, c.nexus))
 }
 
 fn rule_completion(t: &[u8], h: Header, nexus: u8, g: Tag, f: Finish) -> Ruling
@@ -63,8 +64,9 @@ fn rule_completion(t: &[u8], h: Header, nexus: u8, g: Tag, f: Finish) -> Ruling
 {
     let n = h.count as usize;
     let aca = h.aca;
+    let named = is_named(nexus, g, turn_in(t, n, aca, h.run));
     let found = search(t, n, Want::TheTask(nexus, g));
-    complete(h, found, f, is_named(nexus, g, turn_in(t, n, aca, h.run)))
+    complete(h, found, f, named)
 }
 
 pub fn rule(t: &[u8], h: Header, e: Event) -> Ruling

@@ -20,8 +20,8 @@ rule-command-spec =
     rw (
       c .enter .ensures,
       c .before .pending-at .ensures,
-      c .before .before .has-aca .ensures,
-      c .before .before .before .is-here .ensures,
-      c .before .before .before .before .search .ensures,
+      c .before .before .is-here .ensures,
+      c .before .before .before .search .ensures,
+      c .before .before .before .before .has-aca .ensures,
       here-any (same (a .c .nexus) (a .c .tag)) (tasksFrom (a .h .count) (drop tasksAt (a .t .now))),
     )))

@@ -19,8 +19,8 @@ rule-completion-spec =
     let a = c .before .before .before .before .before .before .args in
     rw (
       c .complete .ensures,
-      c .before .is-named .ensures,
-      c .before .before .turn-in .ensures,
-      c .before .before .before .search .ensures,
+      c .before .search .ensures,
+      c .before .before .is-named .ensures,
+      c .before .before .before .turn-in .ensures,
       task-found (first (same (a .nexus) (a .g)) (tasksFrom (a .h .count) (drop tasksAt (a .t .now)))),
     )))
