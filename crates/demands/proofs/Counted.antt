@@ -43,7 +43,7 @@ clear-byte : (a : Allegiance) → eqb (acaNumber a) 0 ≡ isClear a
 clear-byte Clear = refl
 clear-byte (Faulted f) = ne-eqb (f + 1) 0 (λ e. omega arith)
 
-named-by : (n g : ℕ) (u : Turn) → isNamedBy (turnFor (naming Done u)) (record { nexus = n; tag = g }) ≡ isNamed n g u
+pub named-by : (n g : ℕ) (u : Turn) → isNamedBy (turnFor (naming Done u)) (record { nexus = n; tag = g }) ≡ isNamed n g u
 named-by n g Nothing = refl
 named-by n g (Names x) = refl
 

@@ -15,3 +15,4 @@ pub mod Overtaking
 pub mod Stepped
 pub mod TurnsToHave
 pub mod AtEntry
+pub mod Completed

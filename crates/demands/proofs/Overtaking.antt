@@ -132,7 +132,7 @@ module _ (t : List ℕ) (good : GoodTable t) where
       self : (x : Named) → isNamed (x .nexus) (x .tag) (Names x) ≡ true
       self x = rw (eq-eqb (x .nexus) (x .nexus) refl, eq-eqb (x .tag) (x .tag) refl)
 
-  -- whom name names can be completed, with GOOD or CHECK CONDITION: apply answers 0
+  -- whom name names can be completed, with any of the four statuses: apply answers 0
   pub named-can-complete :
       (r : List ℕ) (f : Finish) → length r ≡ reportSize → (turnFor (named t)) .found ≡ true
       → number t r (eventBytes (Completion ((turnFor (named t)) .nexus) ((turnFor (named t)) .tag) f)) ≡ 0

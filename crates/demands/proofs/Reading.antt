@@ -11,10 +11,10 @@ use Rattle.laws.specs.Lists.{one-if, any, count}
 use Rattle.laws.specs.RecordsInLists.{recordAt, joined}
 use Rattle.laws.proofs.RecordsInLists.{record-byte, walked-at}
 use Rattle.laws.proofs.Bools.{or-false, cases}
-use Rattle.octets.specs.Sizes.{policyOffset, acaOffset, firstOffset, secondOffset, tagOffset, attributeOffset}
+use Rattle.octets.specs.Sizes.{policyOffset, acaOffset, runOffset, firstOffset, secondOffset, tagOffset, attributeOffset}
 use Rattle.rules.specs.Tasks.{isHead}
 use Rattle.rules.specs.Rulings.{State, taskName, endedName}
-use Rattle.rules.specs.Rules.{attributeOf, newTask}
+use Rattle.rules.specs.Rules.{attributeOf, newTask, statusOf}
 use Rattle.rules.proofs.NewTasks.{new-task-attribute}
 use Rattle.rules.proofs.WellKept.{Tested}
 use Rattle.records.specs.Numbers.{attributeNumber, attributeFits, attributeFrom, acaNumber, acaFrom, policyFrom, tagIn, tagBytes}
@@ -28,7 +28,7 @@ use Rattle.history.specs.Waits.{headsAmong, othersAmong}
 use Rattle.octets.proofs.Tags.{tag-back}
 use Rattle.records.proofs.ReadBack.{state-back-again}
 use Rattle.records.proofs.EventsSay.{event-fields}
-use Rattle.rules.specs.Types.{Attribute, Task, Asked, Known, NoneOfFour, Entry, Command, Completion, Management, Condition, Clear, Ended, Named}
+use Rattle.rules.specs.Types.{Attribute, Task, Asked, Known, NoneOfFour, Entry, Finish, Command, Completion, Management, Condition, Clear, Ended, Named}
 use Rattle.records.specs.declared.events.EventRead.{EventRead, the-variants.Readable, the-variants.Unreadable}
 use Rattle.demands.specs.Seen.{kindOf, eventName, namesFrom, taskAt, attributesFrom, headsIn, othersIn, presentIn}
 
@@ -68,6 +68,10 @@ module _ (e : List ℕ) where
       let l = event-fields e (Completion n g f) q .1 in (field 2 l, name-of (field 3 l) (ap tagIn l))
   event-reads (Readable (Management n f)) q = field 2 (event-fields e (Management n f) q .1)
   event-reads (Readable (Condition h)) q = field 2 (event-fields e (Condition h) q .1)
+
+  -- the status, of a completion
+  pub status-brought : (n g : ℕ) (f : Finish) → eventOf e ≡ Readable (Completion n g f) → getD e firstOffset 0 ≡ statusOf f
+  status-brought n g f q = field 4 (event-fields e (Completion n g f) q .1)
 
   -- NACA and exempt, of a command
   pub second-asked : (c : Entry) → eventOf e ≡ Readable (Command c) → getD e secondOffset 0 ≡ secondNumber c
@@ -126,6 +130,10 @@ module _ (b : List ℕ) where
 
   pub clear-is : getD b acaOffset 0 ≡ 0 → (stateOf b) .header .aca ≡ Clear
   clear-is z = aca-is ∙ ap acaFrom z
+
+  pub run-is : (stateOf b) .header .run ≡ getD b runOffset 0
+  unfolding stateOf
+  run-is = head-is runOffset (omega arith)
 
   pub policy-is : (stateOf b) .header .policy ≡ policyFrom (getD b policyOffset 0)
   unfolding stateOf

@@ -22,7 +22,7 @@ use Rattle.demands.specs.Seen.{pendingByte}
 use Rattle.demands.specs.Demands.{Reaches}
 use Rattle.demands.proofs.Refused.{carried-out}
 
-pending-is : (b : List ℕ) (i : ℕ) → i < nexuses → pendingOf (stateOf b) i ≡ pendingFrom (pendingByte b i)
+pub pending-is : (b : List ℕ) (i : ℕ) → i < nexuses → pendingOf (stateOf b) i ≡ pendingFrom (pendingByte b i)
 unfolding stateOf pendingsFrom
 pending-is b i h = walked-at nexusSize pendingIn pendingsFrom (λ n l. refl) nexuses i b nexusesAt noPending h
 

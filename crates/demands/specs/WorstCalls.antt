@@ -2,7 +2,7 @@
 -- there.
 --
 --   callOf e            := a call with the record of the event e, and a report buffer of zeros
---   completionOf u f    := a call with the completion, GOOD or CHECK CONDITION, of the task that name answered
+--   completionOf u f    := a call with the completion, with the status of f, of the task that name answered
 --   callItself x        := the call that brings the task itself, 2.0, with the attribute byte x
 --   callsBefore x a b   := the calls before that one, which bring a HEAD OF QUEUE tasks and b others
 --   callsBegun x a b    := both

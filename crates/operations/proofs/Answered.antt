@@ -35,6 +35,19 @@ number-at-entry (EndedAtEntry st se) q f = f st se refl
 number-at-entry Rejected q f = absurd (omega arith)
 number-at-entry BadPolicy q f = absurd (omega arith)
 
+-- an answer with number 0 is Done
+pub number-done : (a : Answer) → numberOf a ≡ 0 → a ≡ Done
+number-done Done q = refl
+number-done BadTable q = absurd (omega arith)
+number-done BadReport q = absurd (omega arith)
+number-done BadEvent q = absurd (omega arith)
+number-done NexusAboveSeven q = absurd (omega arith)
+number-done NoSuchTask q = absurd (omega arith)
+number-done NotEnabled q = absurd (omega arith)
+number-done (EndedAtEntry st se) q = absurd (omega arith)
+number-done Rejected q = absurd (omega arith)
+number-done BadPolicy q = absurd (omega arith)
+
 -- under 0 and 7 tasks may have ended
 pub writes-report-ended : (a : Answer) → (numberOf a ≡ 0) ⊎ (numberOf a ≡ 7) → writesReport a ≡ true
 writes-report-ended a (inl q) = rw q

@@ -15,6 +15,7 @@ pub mod Telling
 pub mod Attentions
 pub mod CommandBits
 pub mod AtEntry
+pub mod Completions
 pub mod CommandEntries
 pub mod Ends
 pub mod Refusals
