@@ -186,7 +186,8 @@ eachBadEvent [] = []
 eachBadEvent (e ∷ es) = refuses e 3 ∷ eachBadEvent es
 
 -- RULES 16.1 to 16.6: the mark and the kind; a COMMAND's second; a COMPLETION's first and second; a MANAGEMENT's second, and the tag of functions
--- 2 to 5; a CONDITION's first, second and tag, and the nexus of power on and hard reset, also above 7
+-- 2 to 5; a CONDITION's first, second and tag, and the nexus of power on and hard reset, also above 7. Until request 3 the second COMPLETION here had 08h, which
+-- ends a task now (RULES 6.9).
 abbrev pub badEvents : Case
 badEvents =
     from (table (header 0x00 1 0 0) quiet (task 0 simple enabled 0 1 ∷ []))
@@ -198,7 +199,7 @@ badEvents =
     ∷ command 0 simple 4 2
     ∷ command 0 simple 0x80 2
     ∷ completion 0 0x01 1
-    ∷ completion 0 0x08 1
+    ∷ completion 0 0x28 1
     ∷ event 2 0 0x00 1 1
     ∷ event 3 0 1 1 1
     ∷ event 3 0 9 1 0

@@ -9,6 +9,7 @@ pub mod Turns
 pub mod Answers
 pub mod Entries
 pub mod EndsAtEntry
+pub mod OnlyEnds
 pub mod Allegiances
 pub mod Aborts
 pub mod Resets

@@ -11,6 +11,9 @@ use Rattle.cases.specs.EndsAtEntry.{overlapQerrNone, overlapQerrAll, ove
 use Rattle.cases.specs.EndsAtEntry.{attributeQerrNone, attributeQerrAll, attributeQerrNexus, reportedBitStaysClear, hostsEndEachOther}
 use Rattle.cases.specs.EndsAtEntry.{dormantAsEntryBegins, acaOfRefused, overlapSparesOthersInAca, bitSparesAllInAca, busyAndActiveChangeNothing}
 use Rattle.cases.specs.EndsAtEntry.{entryLeavesRun}
+use Rattle.cases.specs.OnlyEnds.{busyIsFourthTurn, conflictStaysFour, busyOutOfTurn, conflictEnables, busyWithNaca}
+use Rattle.cases.specs.OnlyEnds.{busyQerrAll, busyQerrAllTas, busyQerrNexus, busyQerrNexusTas, acaTaskBusy, acaTaskBusyQerr}
+use Rattle.cases.specs.OnlyEnds.{busyRefused, otherStatuses}
 use Rattle.cases.specs.Allegiances.{acaBegins, acaTaskGood, acaTaskFails, acaTaskFailsAgain, onlyAcaTaskCompletes, abortTaskInAca}
 use Rattle.cases.specs.Allegiances.{clearTaskSetInAca, clearNoAca, clearAca, qerrEndsBlocked, qerrEndsDormant, qerrEndsNexusInAca}
 use Rattle.cases.specs.Aborts.{qerrNone, qerrAll, qerrNexus, clearTaskSet, clearTaskSetTas, otherAborts}
@@ -75,6 +78,19 @@ more =
     ∷ bitSparesAllInAca
     ∷ busyAndActiveChangeNothing
     ∷ entryLeavesRun
+    ∷ busyIsFourthTurn
+    ∷ conflictStaysFour
+    ∷ busyOutOfTurn
+    ∷ conflictEnables
+    ∷ busyWithNaca
+    ∷ busyQerrAll
+    ∷ busyQerrAllTas
+    ∷ busyQerrNexus
+    ∷ busyQerrNexusTas
+    ∷ acaTaskBusy
+    ∷ acaTaskBusyQerr
+    ∷ busyRefused
+    ∷ otherStatuses
     ∷ acaBegins
     ∷ acaTaskGood
     ∷ acaTaskFails
