@@ -17,9 +17,9 @@
    5. Call dedakhumi_name, run the task that it names, give its end as a COMPLETION, and so on. A driver may also run every task whose
       state is enabled, side by side: any of them may be completed. If another task is named while one runs, the one that runs goes on.
    6. The wait that is promised (RULES 23.5): a task accepted with another attribute than ACA while k older tasks were in the table has
-      ended by the 5 x (k + 1)th turn after that, whatever else comes between. A turn is a COMPLETION, answered 0, of the task that
-      dedakhumi_name gives just before it, with no ACA then; so the promise is worth something where the named task is run. RULES 23.8 has
-      the longest wait there is, by how many HEAD OF QUEUE tasks and how many others were in the table.
+      ended by the 5 x (k + 1)th turn after that, whatever else comes between. A turn is a COMPLETION of any status, answered 0, of the task
+      that dedakhumi_name gives just before it, with no ACA then; so the promise is worth something where the named task is run. RULES 23.8
+      has the longest wait there is, by how many HEAD OF QUEUE tasks and how many others were in the table.
    Whose turn it is (RULES 2.10 to 2.12): with an ACA it is that of the ACA task, if there is one, and else nobody's. Without one it is that
    of the oldest enabled HEAD OF QUEUE task, unless there is none, or the last four turns were such tasks' (run is 4) and a SIMPLE or
    ORDERED task is enabled: then it is that of the oldest enabled task.
@@ -33,27 +33,29 @@
      task once enabled is never dormant again: after an ACA it is enabled again.
    - A COMPLETION is for the command that is in the table now. A host may use the tag of an ended task at once, so ends that come from the
      disk are told apart by a number of the driver's own: a late one is answered 5 only while the tag is unused, and is dropped.
-   - GOOD and CHECK CONDITION alone are completions. For another status of the disk's, such as RESERVATION CONFLICT, the driver gives GOOD,
-     which ends the task and nothing else, and sends the disk's status in its place.
+   - The disk's GOOD, CHECK CONDITION, BUSY and RESERVATION CONFLICT are given as they are. For any other status of the disk's the driver
+     gives GOOD, which ends the task and nothing else, and sends the host the disk's own in its place. A task that the disk ends with BUSY
+     or RESERVATION CONFLICT was not carried out, and what waited for it may run all the same: no ACA holds it back, also with NACA 1.
    - After answer 1, of dedakhumi_name too, there is no table any more: let the disk let go of everything, start over with the policy kept
      beside the table, and give the event again if it was no completion. Each host will be told of a power on.
 
-   A CHECK CONDITION AND OTHER TASKS (RULES 4.5 to 4.7, 5.16 to 5.20, 6.6)
+   A CHECK CONDITION AND OTHER TASKS (RULES 4.5 to 4.7, 5.16 to 5.20, 6.6, 6.9)
    - When a task completes with CHECK CONDITION, other tasks end by the policy's QERR, and then, with NACA, an ACA begins. When a command
      ends at entry with CHECK CONDITION (its tag, a unit attention, its attribute) the same happens, unless an ACA is in effect: then
-     neither does. BUSY, TASK SET FULL and ACA ACTIVE have no such effect.
+     neither does. No other status has such an effect: not the BUSY or RESERVATION CONFLICT that a task completes with, which end it as
+     GOOD does, and not BUSY, TASK SET FULL and ACA ACTIVE at entry.
    - So a host that sets NACA in every command may have an ACA from the first on, which is told of the power on, and has to clear it.
    - Under QERR_ALL without TAS a host that is told of tasks that it lost ends those of others by that, and they are told in their turn.
      Hosts that always have tasks in the box may go on so; with TAS nothing is left to be told.
 
-   AN ACA (RULES 2.8 to 2.10, 5.3 to 5.10, 5.13, 5.17, 6.3)
+   AN ACA (RULES 2.8 to 2.10, 5.3 to 5.10, 5.13, 5.17, 6.3, 6.9)
    - It begins as above; the faulted nexus is that of the task, or of the command that ended at entry.
    - Enabled tasks are blocked then, dormant ones stay so, also where the same event has ended what they waited for. One ACA task of the
      faulted nexus may enter at a time, after it was told the unit attentions that wait for it, if it is not exempt; no place is kept for
      it, so that 64 tasks keep it out. Every other command of that nexus gets ACA ACTIVE, and those of others get BUSY, or ACA ACTIVE with
      NACA; what waits for them waits on. A tag that is in the table goes before all this (DEDAKHUMI_KIND_COMMAND).
    - It ends by CLEAR ACA of the faulted nexus, by CHECK CONDITION of the ACA task without NACA, by the loss of the faulted nexus, and by
-     every reset; by no abort, and not by GOOD.
+     every reset; by no abort, and not by GOOD, BUSY or RESERVATION CONFLICT of the ACA task.
 
    WHAT THE CALLER OWES, since the library cannot see it. It trusts no byte that it is lent: every call with any lengths and any bytes has
    an answer, and a call that is refused, by 1 to 6 or 9, changes nothing.
@@ -70,7 +72,7 @@
    - The archive is for x86-64 with System V calls. It allocates nothing, keeps nothing between calls, calls nothing but memset, and never
      blocks. It uses the red zone and SSE registers, which a kernel and an interrupt handler must not.
    - Stack: DEDAKHUMI_APPLY_STACK, DEDAKHUMI_NAME_STACK and DEDAKHUMI_START_STACK bytes, return address included; memset's own come to that.
-   - Instructions of dedakhumi_apply: in steady work some 870 an event at 3 tasks, 2,080 at 16 and 9,480 at 64. The most that a search found
+   - Instructions of dedakhumi_apply: in steady work some 850 an event at 3 tasks, 2,030 at 16 and 9,300 at 64. The most that a search found
      (0.4.0) is some 28,400: a CHECK CONDITION of the ACA task under QERR 01b on a lent table with 63 other tasks; and 27,100 where a start
      leads there: that of a task under QERR 01b with 64 tasks. Both end all tasks, so that no two such events follow each other. */
 #ifndef DEDAKHUMI_H
@@ -85,7 +87,7 @@ extern "C" {
 #endif
 
 /* DEDAKHUMI_INTERFACE goes up with each change of a length, a layout or a function's parameters. */
-#define DEDAKHUMI_VERSION "0.5.0"
+#define DEDAKHUMI_VERSION "0.6.0"
 #define DEDAKHUMI_INTERFACE 1
 #define DEDAKHUMI_INTERFACE_SYMBOL dedakhumi_interface_1
 
@@ -216,7 +218,8 @@ enum dedakhumi_kind {
 	   task of that nexus and tag is in the table, all tasks of the nexus end with FFh, and the command with CHECK CONDITION, in an ACA
 	   too. That is a CHECK CONDITION like others: without an ACA those of other nexuses may end as well, by QERR. */
 	DEDAKHUMI_KIND_COMMAND = 1,
-	/* nexus, tag; first: DEDAKHUMI_STATUS_GOOD or DEDAKHUMI_STATUS_CHECK_CONDITION */
+	/* nexus, tag; first: the status, GOOD, CHECK CONDITION, BUSY or RESERVATION CONFLICT. Each ends the task with that status, and CHECK
+	   CONDITION alone does more. */
 	DEDAKHUMI_KIND_COMPLETION = 2,
 	/* nexus; first: the function; tag: that of the task for ABORT TASK, 0 for the other functions, free for an unknown one */
 	DEDAKHUMI_KIND_MANAGEMENT = 3,
@@ -279,11 +282,15 @@ enum dedakhumi_state {
 	DEDAKHUMI_STATE_BLOCKED = 3
 };
 
-/* SAM-4's status codes: the status of an answer 7 (RULES 5), or byte 3 of an ended record (RULES 4.4, 6.5 and 6.6). */
+/* SAM-4's status codes: byte 4 of a COMPLETION, the status of an answer 7 (RULES 5), or byte 3 of an ended record (RULES 4.4, 6.5, 6.6 and
+   6.9). */
 enum dedakhumi_status {
 	DEDAKHUMI_STATUS_GOOD = 0x00,
 	DEDAKHUMI_STATUS_CHECK_CONDITION = 0x02,
+	/* a COMPLETION's, or that of a command ended at entry in an ACA */
 	DEDAKHUMI_STATUS_BUSY = 0x08,
+	/* a COMPLETION's only: at entry the box knows no reservations */
+	DEDAKHUMI_STATUS_RESERVATION_CONFLICT = 0x18,
 	DEDAKHUMI_STATUS_TASK_SET_FULL = 0x28,
 	DEDAKHUMI_STATUS_ACA_ACTIVE = 0x30,
 	DEDAKHUMI_STATUS_TASK_ABORTED = 0x40,
@@ -403,7 +410,7 @@ static inline struct dedakhumi_event dedakhumi_command_event(uint8_t nexus, deda
 	return dedakhumi_event_of(DEDAKHUMI_KIND_COMMAND, nexus, attribute, control, tag);
 }
 
-/* `status` is DEDAKHUMI_STATUS_GOOD or DEDAKHUMI_STATUS_CHECK_CONDITION. */
+/* `status` is one of the first four of enum dedakhumi_status, GOOD to RESERVATION CONFLICT. */
 static inline struct dedakhumi_event dedakhumi_completion_event(uint8_t nexus, dedakhumi_tag tag, uint8_t status)
 {
 	return dedakhumi_event_of(DEDAKHUMI_KIND_COMPLETION, nexus, status, 0, tag);

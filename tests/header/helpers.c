@@ -28,6 +28,8 @@ static void hold_events(void)
 	static const uint8_t ordered[] = {0x54, 0x56, 0x01, 0x07, 0x02, 0x03, 0xFF, 0xFE};
 	static const uint8_t good[] = {0x54, 0x56, 0x02, 0x02, 0x00, 0x00, 0x00, 0x07};
 	static const uint8_t failed[] = {0x54, 0x56, 0x02, 0x03, 0x02, 0x00, 0x12, 0x34};
+	static const uint8_t busy[] = {0x54, 0x56, 0x02, 0x00, 0x08, 0x00, 0xFF, 0x00};
+	static const uint8_t conflict[] = {0x54, 0x56, 0x02, 0x07, 0x18, 0x00, 0x00, 0xFF};
 	static const uint8_t abort_task[] = {0x54, 0x56, 0x03, 0x04, 0x01, 0x00, 0x01, 0x00};
 	static const uint8_t clear_aca[] = {0x54, 0x56, 0x03, 0x05, 0x04, 0x00, 0x00, 0x00};
 	static const uint8_t nexus_loss[] = {0x54, 0x56, 0x04, 0x06, 0x03, 0x00, 0x00, 0x00};
@@ -38,6 +40,8 @@ static void hold_events(void)
 		"a command with all its fields");
 	hold_event(dedakhumi_completion_event(2, 7, DEDAKHUMI_STATUS_GOOD), good, "a completion");
 	hold_event(dedakhumi_completion_event(3, 0x1234, DEDAKHUMI_STATUS_CHECK_CONDITION), failed, "a completion with CHECK CONDITION");
+	hold_event(dedakhumi_completion_event(0, 0xFF00, DEDAKHUMI_STATUS_BUSY), busy, "a completion with BUSY");
+	hold_event(dedakhumi_completion_event(7, 0x00FF, DEDAKHUMI_STATUS_RESERVATION_CONFLICT), conflict, "a completion with RESERVATION CONFLICT");
 	hold_event(dedakhumi_abort_task_event(4, 0x0100), abort_task, "ABORT TASK");
 	hold_event(dedakhumi_function_event(5, DEDAKHUMI_FUNCTION_CLEAR_ACA), clear_aca, "CLEAR ACA");
 	hold_event(dedakhumi_nexus_loss_event(6), nexus_loss, "a nexus loss");
