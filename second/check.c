@@ -102,6 +102,20 @@ bool second_well_formed(const uint8_t *table)
 	return good_header(table) && good_nexus_records(table) && good_used_records(table) && good_unused_records(table);
 }
 
+/* RULES 16.2: what a disk may end a task with; the other statuses of layout.h are the box's own. */
+static bool good_status(uint8_t status)
+{
+	switch (status) {
+	case STATUS_GOOD:
+	case STATUS_CHECK_CONDITION:
+	case STATUS_BUSY:
+	case STATUS_RESERVATION_CONFLICT:
+		return true;
+	default:
+		return false;
+	}
+}
+
 static bool good_management(const uint8_t *event)
 {
 	if (event[EVENT_SECOND] != 0)
@@ -134,8 +148,7 @@ bool second_good_event(const uint8_t *event)
 	case COMMAND:
 		return (event[EVENT_SECOND] & ~(CONTROL_NACA | COMMAND_EXEMPT)) == 0;
 	case COMPLETION:
-		return event[EVENT_SECOND] == 0 &&
-			(event[EVENT_FIRST] == STATUS_GOOD || event[EVENT_FIRST] == STATUS_CHECK_CONDITION);
+		return event[EVENT_SECOND] == 0 && good_status(event[EVENT_FIRST]);
 	case MANAGEMENT:
 		return good_management(event);
 	case CONDITION:

@@ -8,9 +8,20 @@ void event_write(struct step *step, uint8_t kind, uint8_t nexus, uint8_t first, 
 	memcpy(step->event, event.bytes, sizeof event.bytes);
 }
 
-uint8_t random_status(uint64_t *random, unsigned good_percent)
+uint8_t random_status(uint64_t *random, unsigned quiet_percent)
 {
-	return random_percent(random, good_percent) ? STATUS_GOOD : STATUS_CHECK_CONDITION;
+	if (!random_percent(random, quiet_percent))
+		return STATUS_CHECK_CONDITION;
+	if (random_percent(random, 50))
+		return STATUS_GOOD;
+	return random_percent(random, 50) ? STATUS_BUSY : STATUS_RESERVATION_CONFLICT;
+}
+
+uint8_t random_bad_status(uint64_t *random)
+{
+	static const uint8_t statuses[] = { 0x01, 0x04, 0x0A, 0x0C, 0x10, 0x14, 0x1A, 0x1C, 0x22, 0x28, 0x30, 0x38, 0x40, 0x48, 0x58, 0x88, 0x98, 0xFF };
+
+	return statuses[random_below(random, sizeof statuses)];
 }
 
 static uint8_t random_nexus(uint64_t *random, struct range range)

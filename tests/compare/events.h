@@ -20,7 +20,9 @@ void event_management(uint64_t *random, struct step *step, struct range range);
 void event_condition(uint64_t *random, struct step *step, struct range range);
 /* Any of the four kinds. */
 void event_any(uint64_t *random, const uint8_t *table, struct step *step, struct range range);
-/* GOOD for the given percentage, else CHECK CONDITION. */
-uint8_t random_status(uint64_t *random, unsigned good_percent);
+/* For the given percentage one that ends its task and does no more: GOOD, as often BUSY or RESERVATION CONFLICT; else CHECK CONDITION. */
+uint8_t random_status(uint64_t *random, unsigned quiet_percent);
+/* A first byte that no completion may have: another status of SAM-4's, or one that is a bit or two from one that is taken. */
+uint8_t random_bad_status(uint64_t *random);
 
 #endif

@@ -44,6 +44,7 @@ int main(int count, char **arguments)
 	compare_starts(&session);
 	compare_lengths(&session);
 	compare_every_event(&session);
+	compare_every_end(&session);
 	compare_small_tables(&session);
 	compare_streams(&session);
 	compare_damaged_tables(&session);

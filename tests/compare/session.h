@@ -34,6 +34,7 @@ void session_apply(struct session *session);
 void compare_starts(struct session *session);
 void compare_lengths(struct session *session);
 void compare_every_event(struct session *session);
+void compare_every_end(struct session *session);
 void compare_small_tables(struct session *session);
 void compare_streams(struct session *session);
 void compare_damaged_tables(struct session *session);

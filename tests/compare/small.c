@@ -22,12 +22,15 @@ static void add_small_task(uint64_t *random, uint8_t *table, unsigned number)
 /* The table is lent anew before each event. */
 static void apply_firsts(struct session *session, uint8_t kind, uint8_t nexus, uint8_t second)
 {
-	for (unsigned first = 0; first <= 6; first++) {
+	static const uint8_t firsts[] = { 0, 1, 2, 3, 4, 5, 6, STATUS_BUSY, STATUS_RESERVATION_CONFLICT };
+
+	for (size_t number = 0; number < sizeof firsts; number++) {
+		uint8_t first = firsts[number];
 		bool tagged = kind == COMMAND || kind == COMPLETION || first < ABORT_TASK_SET;
 		tag_number tag = (tag_number)random_below(&session->random, SMALL_TAGS + 1);
 
 		session_reopen(session);
-		event_write(session_new_step(session), kind, nexus, (uint8_t)first, second, tagged ? tag : 0);
+		event_write(session_new_step(session), kind, nexus, first, second, tagged ? tag : 0);
 		session_apply(session);
 	}
 }

@@ -25,6 +25,8 @@ static void next_random_bytes(uint64_t *random, const uint8_t *table, struct ste
 static void next_almost_good(uint64_t *random, const uint8_t *table, struct step *step)
 {
 	event_any(random, table, step, (struct range){ NEXUS_COUNT + 2, random_percent(random, 50) ? 1 : 4 });
+	if (step->event[EVENT_KIND] == COMPLETION && random_percent(random, 30))
+		step->event[EVENT_FIRST] = random_bad_status(random);
 	for (unsigned spoilt = random_below(random, 3); spoilt > 0; spoilt--)
 		step->event[random_below(random, EVENT_LENGTH)] =
 			(uint8_t)random_below(random, random_percent(random, 75) ? 9 : 256);
@@ -68,7 +70,7 @@ static void next_full(uint64_t *random, const uint8_t *table, struct step *step)
 	if (choice < enter)
 		event_command(random, step, any_range, entering_attribute(random, 60), 95);
 	else if (choice < 950)
-		event_completion(random, table, step, any_range, STATUS_GOOD);
+		event_completion(random, table, step, any_range, random_status(random, 100));
 	else if (choice < 990)
 		event_abort_task(random, table, step, any_range);
 	else if (choice < 994)
