@@ -8,6 +8,9 @@ static const struct form forms[] = {
 	{"0.1 S", "command 0.1 SIMPLE", read_task_event, DEDAKHUMI_KIND_COMMAND, 0, "nexus 0 sends a command with tag 1"},
 	{"0.1 ends", "completion 0.1 GOOD", read_task_event, DEDAKHUMI_KIND_COMPLETION, 0, "the disk has ended the task with GOOD"},
 	{"0.1 fails", "completion 0.1 CHECK CONDITION", read_task_event, DEDAKHUMI_KIND_COMPLETION, 0, "the same with CHECK CONDITION"},
+	{"0.1 busy", "completion 0.1 BUSY", read_task_event, DEDAKHUMI_KIND_COMPLETION, 0, "the same with BUSY"},
+	{"0.1 conflict", "completion 0.1 RESERVATION CONFLICT", read_task_event, DEDAKHUMI_KIND_COMPLETION, 0,
+		"the same with RESERVATION CONFLICT"},
 	{"abort set 0", "abort task set 0", read_nexus, FUNCTION(ABORT_TASK_SET), "ABORT TASK SET from nexus 0"},
 	{"abort 0.1", "abort task 0.1", read_task, FUNCTION(ABORT_TASK), "ABORT TASK from nexus 0, tag 1"},
 	{"clear set 0", "clear task set 0", read_nexus, FUNCTION(CLEAR_TASK_SET), "CLEAR TASK SET from nexus 0"},
@@ -70,7 +73,7 @@ void add_right_forms(struct text *text, struct word word, const struct name *own
 void add_forms(struct text *text)
 {
 	for (const struct form *form = forms; form < forms + FORMS; form++)
-		text_add(text, "  %-24s %-31s %s\n", form->brief, form->full, form->meaning);
+		text_add(text, "  %-24s %-36s %s\n", form->brief, form->full, form->meaning);
 	text_add(text,
 		"  Attributes: S SIMPLE, H HEAD OF QUEUE, O ORDERED, A ACA. Behind one may stand naca (its CHECK CONDITION sets up an\n"
 		"  ACA) and exempt (INQUIRY, REPORT LUNS, REQUEST SENSE). A nexus is 0 to %d, a tag 0 to %llu; a nexus up to %d may be tried.\n"

@@ -5,7 +5,9 @@
 static bool take_end(struct reading *reading)
 {
 	static const struct name ends[] = {{DEDAKHUMI_STATUS_GOOD, "ends"}, {DEDAKHUMI_STATUS_GOOD, "GOOD"},
-		{DEDAKHUMI_STATUS_CHECK_CONDITION, "fails"}, {DEDAKHUMI_STATUS_CHECK_CONDITION, "CHECK CONDITION"}, {0, NULL}};
+		{DEDAKHUMI_STATUS_CHECK_CONDITION, "fails"}, {DEDAKHUMI_STATUS_CHECK_CONDITION, "CHECK CONDITION"},
+		{DEDAKHUMI_STATUS_BUSY, "BUSY"}, {DEDAKHUMI_STATUS_RESERVATION_CONFLICT, "conflict"},
+		{DEDAKHUMI_STATUS_RESERVATION_CONFLICT, "RESERVATION CONFLICT"}, {0, NULL}};
 	if (reading->fields.kind == DEDAKHUMI_KIND_COMMAND || !take_name(&reading->rest, ends, &reading->fields.first))
 		return false;
 	reading->fields.kind = DEDAKHUMI_KIND_COMPLETION;
@@ -39,6 +41,7 @@ static bool take_attribute(struct reading *reading)
 }
 
 #define RIGHT_COMMAND "S, H, O or A, and behind it naca or exempt or both (without commas)"
+#define RIGHT_END "ends, fails, busy or conflict"
 
 /* What may stand behind the task, by the kind that the line's opening gave. */
 static const char *right_of(uint8_t kind)
@@ -47,16 +50,16 @@ static const char *right_of(uint8_t kind)
 	case DEDAKHUMI_KIND_COMMAND:
 		return RIGHT_COMMAND;
 	case DEDAKHUMI_KIND_COMPLETION:
-		return "ends or fails";
+		return RIGHT_END;
 	default:
-		return RIGHT_COMMAND "; or ends or fails";
+		return RIGHT_COMMAND "; or " RIGHT_END;
 	}
 }
 
 bool read_task_event(struct reading *reading)
 {
 	if (reading->fields.kind == 0)
-		reading->right = "0.1 S, 0.1 ends, 0.1 fails";
+		reading->right = "0.1 S, 0.1 ends, 0.1 fails, 0.1 busy, 0.1 conflict";
 	if (!read_task(reading))
 		return false;
 	reading->right = right_of(reading->fields.kind);
