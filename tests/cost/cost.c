@@ -72,6 +72,7 @@ static struct dedakhumi_event any_event(void)
 	case 4: return event_of_a_task(DEDAKHUMI_KIND_COMPLETION, DEDAKHUMI_STATUS_CHECK_CONDITION);
 	case 5:
 	case 6: return event_of_a_task(DEDAKHUMI_KIND_COMPLETION, DEDAKHUMI_STATUS_GOOD);
+	case 7: return event_of_a_task(DEDAKHUMI_KIND_COMPLETION, below(2) == 0 ? DEDAKHUMI_STATUS_BUSY : DEDAKHUMI_STATUS_RESERVATION_CONFLICT);
 	default: return any_command();
 	}
 }

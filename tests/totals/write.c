@@ -90,10 +90,20 @@ static struct dedakhumi_event overlapped_command(struct writer *writer)
 	return dedakhumi_command_event(task.nexus, task.tag, attribute, control);
 }
 
+/* What is no CHECK CONDITION is mostly GOOD. */
+static uint8_t any_status(struct writer *writer)
+{
+	if (percent(writer, writer->phase->checks))
+		return STATUS_CHECK_CONDITION;
+	if (percent(writer, 80))
+		return STATUS_GOOD;
+	return percent(writer, 50) ? STATUS_BUSY : STATUS_RESERVATION_CONFLICT;
+}
+
 /* Of the task whose turn it is, or of any, which then may be dormant or blocked. */
 static struct dedakhumi_event completion(struct writer *writer)
 {
-	uint8_t status = percent(writer, writer->phase->checks) ? STATUS_CHECK_CONDITION : STATUS_GOOD;
+	uint8_t status = any_status(writer);
 	struct dedakhumi_turn turn = second_name(writer->table, sizeof writer->table);
 	if (turn.found && percent(writer, 60))
 		return dedakhumi_completion_event(turn.nexus, turn.tag, status);
@@ -120,11 +130,20 @@ static struct dedakhumi_event condition(struct writer *writer)
 	return first == NEXUS_LOSS ? dedakhumi_nexus_loss_event(nexus) : dedakhumi_reset_event(first);
 }
 
+/* With a status that the box has and no completion may have (RULES 16.2). */
+static struct dedakhumi_event bad_completion(struct writer *writer)
+{
+	static const uint8_t statuses[] = {STATUS_TASK_SET_FULL, STATUS_ACA_ACTIVE, STATUS_TASK_ABORTED, STATUS_NONE_SENT};
+	struct dedakhumi_task task = any_task(writer);
+	uint8_t status = statuses[below(writer, sizeof statuses)];
+	return dedakhumi_completion_event(task.nexus, task.tag, status);
+}
+
 static struct dedakhumi_event bad_event(struct writer *writer)
 {
 	struct dedakhumi_event event = command(writer);
 	uint8_t place = below(writer, MARK_LENGTH);
-	switch (below(writer, 5)) {
+	switch (below(writer, 6)) {
 	case 0:
 		event.bytes[place] ^= 1 + below(writer, 255);
 		break;
@@ -137,6 +156,9 @@ static struct dedakhumi_event bad_event(struct writer *writer)
 	case 3:
 		/* a bit above those of a command */
 		event.bytes[EVENT_SECOND] |= (uint8_t)(0x04 << below(writer, 6));
+		break;
+	case 4:
+		event = bad_completion(writer);
 		break;
 	default:
 		random_bytes(&writer->random, event.bytes, sizeof event.bytes);

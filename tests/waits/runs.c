@@ -17,11 +17,14 @@ static void let_newcomer_in(struct watch *watch)
 	watch_command(watch, NEWCOMER_NEXUS, NEWCOMER_TAG, DEDAKHUMI_ATTRIBUTE_HEAD_OF_QUEUE);
 }
 
-/* No command has NACA, so there is no ACA. */
+/* A row and the turn behind it are five, so that each of three or four statuses comes at each place of them. No command has NACA, so there is no ACA. */
 static uint8_t next_status(const struct run *run, const struct watch *watch)
 {
+	static const uint8_t statuses[] = {
+		DEDAKHUMI_STATUS_GOOD, DEDAKHUMI_STATUS_BUSY, DEDAKHUMI_STATUS_RESERVATION_CONFLICT, DEDAKHUMI_STATUS_CHECK_CONDITION};
 	bool ends_nobody = (run->policy & ~(unsigned)DEDAKHUMI_POLICY_TAS) == DEDAKHUMI_POLICY_QERR_NONE;
-	return run->pressed && ends_nobody && watch->turns % 2 == 1 ? DEDAKHUMI_STATUS_CHECK_CONDITION : DEDAKHUMI_STATUS_GOOD;
+	unsigned taken = ends_nobody ? sizeof statuses : sizeof statuses - 1;
+	return run->pressed ? statuses[watch->turns % taken] : statuses[0];
 }
 
 static void complete(const struct run *run, struct watch *watch, uint8_t nexus, dedakhumi_tag tag)

@@ -8,7 +8,7 @@ struct run {
 	struct older older;
 	uint8_t attribute, policy;
 	/* Not of RULES 23.9, and with the same figures: the others are ORDERED, a newcomer stands in the table before each turn where there is room for one, more
-	   comes aside, and where QERR ends nobody every second end is CHECK CONDITION. */
+	   comes aside, and ends are GOOD, BUSY and RESERVATION CONFLICT in turn, and CHECK CONDITION too where QERR ends nobody. */
 	bool pressed;
 };
 
