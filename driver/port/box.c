@@ -25,7 +25,7 @@ static void send_status(struct box *box, const struct dedakhumi_ended *end, void
 		box->calls->send(box->context, end->nexus, end->tag, request, status, sense);
 }
 
-/* The table was told GOOD for every status of the disk's but CHECK CONDITION; the host hears the disk's own. */
+/* The table was told GOOD for a status of the disk's that it does not take; the host hears the disk's own. */
 static void send_kept_end(struct box *box, const struct dedakhumi_ended *end, struct kept_request *kept)
 {
 	uint8_t status = end->status == DEDAKHUMI_STATUS_GOOD ? kept->status : end->status;

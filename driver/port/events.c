@@ -22,11 +22,22 @@ struct dedakhumi_answer box_command(
 	return answer;
 }
 
-/* The table knows two ends: CHECK CONDITION, and GOOD, which ends the task and nothing else, as every other status of the disk's has to. */
+/* The four that the table takes, as they are (RULES 16.2). For any other GOOD, which ends the task and nothing else. */
+static uint8_t status_for_table(uint8_t status)
+{
+	switch (status) {
+	case DEDAKHUMI_STATUS_CHECK_CONDITION:
+	case DEDAKHUMI_STATUS_BUSY:
+	case DEDAKHUMI_STATUS_RESERVATION_CONFLICT:
+		return status;
+	default:
+		return DEDAKHUMI_STATUS_GOOD;
+	}
+}
+
 static struct dedakhumi_event end_event(uint8_t nexus, dedakhumi_tag tag, uint8_t status)
 {
-	bool failed = status == DEDAKHUMI_STATUS_CHECK_CONDITION;
-	return dedakhumi_completion_event(nexus, tag, failed ? DEDAKHUMI_STATUS_CHECK_CONDITION : DEDAKHUMI_STATUS_GOOD);
+	return dedakhumi_completion_event(nexus, tag, status_for_table(status));
 }
 
 struct dedakhumi_answer box_give_end(struct box *box, const struct kept_request *kept)

@@ -3,74 +3,9 @@
 #include <stdio.h>
 #include <stdlib.h>
 
+#include "acts.h"
+#include "statuses.h"
 #include "usage.h"
-#include "watch.h"
-
-enum { SIMPLE = DEDAKHUMI_ATTRIBUTE_SIMPLE, HEAD_OF_QUEUE = DEDAKHUMI_ATTRIBUTE_HEAD_OF_QUEUE, ORDERED = DEDAKHUMI_ATTRIBUTE_ORDERED };
-enum { NACA = DEDAKHUMI_CONTROL_NACA, EXEMPT = DEDAKHUMI_CONTROL_EXEMPT };
-/* none of the four */
-enum { NO_ATTRIBUTE = 3 };
-/* of a disk's statuses that the box itself never sends */
-enum { RESERVATION_CONFLICT = 0x18 };
-
-static const struct sense no_sense = {0, 0, 0}, write_error = {0x3, 0x0C, 0x00}, hardware_error = {0x4, 0x44, 0x00};
-
-static struct dedakhumi_answer command(struct watch *watch, uint8_t nexus, dedakhumi_tag tag, uint8_t attribute, uint8_t control)
-{
-	return box_command(&watch->box, nexus, tag, attribute, control, block_of(nexus, tag));
-}
-
-static struct dedakhumi_answer good(struct watch *watch, uint8_t nexus, dedakhumi_tag tag)
-{
-	return box_complete(&watch->box, nexus, tag, DEDAKHUMI_STATUS_GOOD, no_sense);
-}
-
-static struct dedakhumi_answer bad(struct watch *watch, uint8_t nexus, dedakhumi_tag tag, struct sense sense)
-{
-	return box_complete(&watch->box, nexus, tag, DEDAKHUMI_STATUS_CHECK_CONDITION, sense);
-}
-
-/* With a sense, which is nobody's where the status is not CHECK CONDITION. */
-static struct dedakhumi_answer ends(struct watch *watch, uint8_t nexus, dedakhumi_tag tag, uint8_t status)
-{
-	return box_complete(&watch->box, nexus, tag, status, hardware_error);
-}
-
-static struct dedakhumi_answer function(struct watch *watch, uint8_t nexus, uint8_t function)
-{
-	return box_apply(&watch->box, dedakhumi_function_event(nexus, function));
-}
-
-static void accepts(struct watch *watch, uint8_t nexus, dedakhumi_tag tag, uint8_t attribute, uint8_t control)
-{
-	check_answer(watch, "a command that nothing speaks against is a task", command(watch, nexus, tag, attribute, control), 0, "");
-}
-
-static void runs(struct watch *watch, const char *what, unsigned count, const char *asked)
-{
-	check_number(watch, what, box_run_enabled(&watch->box), count);
-	check_asked(watch, what, asked);
-}
-
-static void names(struct watch *watch, const char *what, bool found, const char *asked)
-{
-	check_number(watch, what, box_run_named(&watch->box), found);
-	check_asked(watch, what, asked);
-}
-
-/* With tag 1 each host is told of the power on, and has nothing to hear any more. */
-static struct watch *begin(uint8_t policy)
-{
-	static struct watch watch;
-	watch = (struct watch){.used = 0};
-	check_number(&watch, "a good policy", watch_start(&watch, policy), 0);
-	for (uint8_t nexus = 0; nexus < DEDAKHUMI_NEXUSES; nexus++) {
-		char told[64];
-		snprintf(told, sizeof told, "send %u.1 02h 6h/29h/00h; ", nexus);
-		check_answer(&watch, "each host is told of the power on once", command(&watch, nexus, 1, SIMPLE, 0), 7, told);
-	}
-	return &watch;
-}
 
 static void power_on(void)
 {
@@ -121,19 +56,6 @@ static void turns(void)
 	names(watch, "a HEAD OF QUEUE task that comes later runs beside it", true, "run 6.5; ");
 	check_answer(watch, "the one that ran goes on", good(watch, 6, 4), 0, "let go 6.4; send 6.4 00h; ");
 	check_answer(watch, "and the other", good(watch, 6, 5), 0, "let go 6.5; send 6.5 00h; ");
-}
-
-/* Nexus 1 has an ACA; 2.2, which the disk has, is blocked, and 7.2 dormant. */
-static struct watch *begin_aca(void)
-{
-	struct watch *watch = begin(DEDAKHUMI_POLICY_QERR_NONE);
-	accepts(watch, 1, 2, SIMPLE, NACA);
-	accepts(watch, 2, 2, SIMPLE, 0);
-	accepts(watch, 7, 2, ORDERED, 0);
-	runs(watch, "both SIMPLE tasks run side by side", 2, "run 1.2; run 2.2; ");
-	check_answer(watch, "the host hears the disk's sense", bad(watch, 1, 2, write_error), 0, "let go 1.2; send 1.2 02h 3h/0Ch/00h; ");
-	check_number(watch, "the faulted nexus", dedakhumi_faulted_nexus(watch->box.port.table), 1);
-	return watch;
 }
 
 static void blocked_task(void)
@@ -198,38 +120,6 @@ static void stray_ends_in_aca(void)
 	check_answer(watch, "the ACA is cleared", function(watch, 1, DEDAKHUMI_FUNCTION_CLEAR_ACA), 0, "");
 	check_stray(watch, "it is the box that gives it again", good(watch, 2, 2));
 	runs(watch, "the first end holds, and the dormant task runs", 1, "gives again; let go 2.2; send 2.2 02h 4h/44h/00h; run 7.2; ");
-}
-
-/* To the table they are GOOD: no other task ends, and no ACA begins. */
-static void other_statuses(void)
-{
-	struct watch *watch = begin(DEDAKHUMI_POLICY_QERR_ALL);
-	accepts(watch, 0, 2, SIMPLE, NACA);
-	accepts(watch, 1, 2, SIMPLE, NACA);
-	accepts(watch, 2, 2, SIMPLE, NACA);
-	accepts(watch, 3, 2, SIMPLE, NACA);
-	runs(watch, "all", 4, "run 0.2; run 1.2; run 2.2; run 3.2; ");
-	check_answer(watch, "the disk's own status", ends(watch, 0, 2, RESERVATION_CONFLICT), 0, "let go 0.2; send 0.2 18h; ");
-	check_answer(watch, "BUSY", ends(watch, 1, 2, DEDAKHUMI_STATUS_BUSY), 0, "let go 1.2; send 1.2 08h; ");
-	check_answer(watch, "an abort by the disk, which has nothing to drop", ends(watch, 2, 2, DEDAKHUMI_STATUS_TASK_ABORTED), 0,
-		"let go 2.2; send 2.2 40h; ");
-	check_answer(watch, "FFh is sent to nobody", ends(watch, 3, 2, DEDAKHUMI_STATUS_NONE), 0, "let go 3.2; ");
-	check_number(watch, "no ACA", dedakhumi_faulted_nexus(watch->box.port.table), DEDAKHUMI_NEXUSES);
-	check_answer(watch, "a late one", ends(watch, 0, 2, RESERVATION_CONFLICT), 5, "");
-	accepts(watch, 0, 2, SIMPLE, 0);
-	runs(watch, "the tag is used again", 1, "run 0.2; ");
-	check_answer(watch, "and the status before is forgotten", good(watch, 0, 2), 0, "let go 0.2; send 0.2 00h; ");
-}
-
-static void other_status_held_back(void)
-{
-	struct watch *watch = begin_aca();
-	check_answer(watch, "the disk's own status waits too", ends(watch, 2, 2, RESERVATION_CONFLICT), 6, "");
-	check_answer(watch, "the ACA is cleared", function(watch, 1, DEDAKHUMI_FUNCTION_CLEAR_ACA), 0, "");
-	runs(watch, "and is sent", 1, "gives again; let go 2.2; send 2.2 18h; run 7.2; ");
-	watch = begin_aca();
-	check_answer(watch, "once more", ends(watch, 2, 2, RESERVATION_CONFLICT), 6, "");
-	check_answer(watch, "an abort takes its place", function(watch, 2, DEDAKHUMI_FUNCTION_ABORT_TASK_SET), 0, "let go 2.2; ");
 }
 
 static void aborts(void)
@@ -379,8 +269,7 @@ int main(int argument_count, char **arguments)
 	blocked_task_aborted();
 	stray_ends();
 	stray_ends_in_aca();
-	other_statuses();
-	other_status_held_back();
+	statuses_of_the_disk();
 	aborts();
 	aborts_of_others();
 	refused_command_blocks();

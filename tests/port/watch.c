@@ -80,10 +80,10 @@ static void let_go(void *context, uint8_t nexus, dedakhumi_tag tag, void *reques
 static void applied(void *context, const struct dedakhumi_event *event, const struct dedakhumi_answer *answer)
 {
 	struct watch *watch = context;
-	(void)event;
 	expect_no_status(watch);
 	watch->applied++;
 	watch->answered = answer->answer;
+	watch->told = dedakhumi_fields_of(event->bytes).first;
 }
 
 static void note(void *context, enum box_note note)
@@ -134,6 +134,12 @@ void check_answer(struct watch *watch, const char *what, struct dedakhumi_answer
 	check_number(watch, what, watch->applied, 1);
 	check_number(watch, what, watch->answered, number);
 	check_asked(watch, what, asked);
+}
+
+void check_end(struct watch *watch, const char *what, struct dedakhumi_answer answer, uint8_t number, uint8_t told, const char *asked)
+{
+	check_number(watch, what, watch->told, told);
+	check_answer(watch, what, answer, number, asked);
 }
 
 void check_stray(struct watch *watch, const char *what, struct dedakhumi_answer answer)
