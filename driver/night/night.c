@@ -57,6 +57,7 @@ static bool play(void)
 	scene_damaged_table(&world);
 	scene_other_depots();
 	scene_refused_commands();
+	scene_busy_disk();
 	return sum_up(&world);
 }
 

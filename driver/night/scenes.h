@@ -25,5 +25,7 @@ void scene_damaged_table(const struct world *world);
 void scene_other_depots(void);
 /* refused.c: the same */
 void scene_refused_commands(void);
+/* busy.c: the same */
+void scene_busy_disk(void);
 
 #endif
