@@ -12,7 +12,8 @@ static bool wrong_kind(const struct dedakhumi_fields *event)
 static bool wrong_status(const struct dedakhumi_fields *event)
 {
 	return event->kind == DEDAKHUMI_KIND_COMPLETION && event->first != DEDAKHUMI_STATUS_GOOD &&
-		event->first != DEDAKHUMI_STATUS_CHECK_CONDITION;
+		event->first != DEDAKHUMI_STATUS_CHECK_CONDITION && event->first != DEDAKHUMI_STATUS_BUSY &&
+		event->first != DEDAKHUMI_STATUS_RESERVATION_CONFLICT;
 }
 
 static bool wrong_condition(const struct dedakhumi_fields *event)
@@ -51,7 +52,7 @@ static const struct field {
 	const char *name, *right;
 } fields[] = {
 	{wrong_kind, DEDAKHUMI_AT_EVENT_KIND, 1, "kind", "01 COMMAND, 02 COMPLETION, 03 MANAGEMENT or 04 CONDITION"},
-	{wrong_status, DEDAKHUMI_AT_EVENT_FIRST, 1, "status", "00 GOOD or 02 CHECK CONDITION"},
+	{wrong_status, DEDAKHUMI_AT_EVENT_FIRST, 1, "status", "00 GOOD, 02 CHECK CONDITION, 08 BUSY or 18 RESERVATION CONFLICT"},
 	{wrong_condition, DEDAKHUMI_AT_EVENT_FIRST, 1, "condition", "01 power on, 02 hard reset or 03 nexus loss"},
 	{wrong_control, DEDAKHUMI_AT_EVENT_SECOND, 1, "control", "00, or 01 naca, 02 exempt, 03 both"},
 	{wrong_second, DEDAKHUMI_AT_EVENT_SECOND, 1, "second field", "0"},

@@ -6,7 +6,7 @@ import signal
 import tempfile
 from subprocess import DEVNULL
 
-from program import ATTRIBUTES, BEGIN
+from program import ATTRIBUTES, BEGIN, ENDS
 
 USAGE = "usage: try [FILE...]\n"
 
@@ -20,7 +20,7 @@ def write_files(folder):
 def shown_for(folder):
     one = "> 0.1 S exempt\n  0 done: entered\n  0.1 S enabled; turn: 0.1\n"
     two = "> 0.2 O exempt\n  0 done: entered\n  0.1 S enabled, 0.2 O dormant; turn: 0.1\n> \n> 0.3 X\n"
-    wrong = f'{folder}/two: line 3: "0.3 X": X is no attribute; right would be {ATTRIBUTES}; or ends or fails\n'
+    wrong = f'{folder}/two: line 3: "0.3 X": X is no attribute; right would be {ATTRIBUTES}; or {ENDS}\n'
     ends = "> 0.1 ends\n  0 done; ended: 0.1 GOOD\n  0.2 O enabled; turn: 0.2\n"
     return {
         ("one",): (one, 0),

@@ -5,9 +5,10 @@ import subprocess
 
 LINES = 6000
 WORDS = """start 00 01 02 03 05 ff command completion abort task set clear aca ACA logical unit reset hard nexus loss lost power on
-0 1 7 8 255 256 0.1 0.2 1.1 1.2 2.1 7.65535 0.65536 8.1 S H O A SIMPLE HEAD OF QUEUE ORDERED GOOD CHECK CONDITION ends fails naca exempt
+0 1 7 8 255 256 0.1 0.2 1.1 1.2 2.1 7.65535 0.65536 8.1 S H O A SIMPLE HEAD OF QUEUE ORDERED GOOD CHECK CONDITION ends fails busy conflict RESERVATION CONFLICT naca exempt
 54 5456 54560100 # help ? pending x""".split()
-USUAL = ["{}.{} S", "{}.{} O", "{}.{} H naca", "{}.{} S naca", "{}.{} A", "{}.{} ends", "{}.{} ends", "{}.{} fails", "abort {}.{}",
+USUAL = ["{}.{} S", "{}.{} O", "{}.{} H naca", "{}.{} S naca", "{}.{} A", "{}.{} ends", "{}.{} ends", "{}.{} fails", "{}.{} busy",
+         "{}.{} conflict", "abort {}.{}",
          "clear aca {}", "start {}2", "5456010{}0000000{}", "5456020{}0000000{}"]
 # each that an event or a start can get; the two buffers are never wrong
 ANSWERS = b"0 3 4 5 6 7 8 9".split()

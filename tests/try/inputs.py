@@ -3,7 +3,7 @@ import pathlib
 import re
 import subprocess
 
-from program import ATTRIBUTES, BEGIN
+from program import ATTRIBUTES, BEGIN, ENDS
 
 ENTERED = "  0 done: entered\n  0.1 S enabled; turn: 0.1\n"
 ABORTED = "  0 done: FUNCTION COMPLETE to nexus 0\n  no tasks; turn: nobody\n"
@@ -16,12 +16,12 @@ TOO_MANY = (
     '...": there are more than 64 bytes; right would be two hex digits for each byte, as in 54 56 01 00 00 00 00 01; '
     "or a task, as in 0.1 S\n"
 )
-NO_ATTRIBUTE = f"is no attribute; right would be {ATTRIBUTES}; or ends or fails\n"
-NO_TAG = "is no tag, which is 0 to 65535; right would be 0.1 S, 0.1 ends, 0.1 fails\n"
+NO_ATTRIBUTE = f"is no attribute; right would be {ATTRIBUTES}; or {ENDS}\n"
+NO_TAG = "is no tag, which is 0 to 65535; right would be 0.1 S, 0.1 ends, 0.1 fails, 0.1 busy, 0.1 conflict\n"
 MARK = b"\xEF\xBB\xBF"
 NO_LINE = (
-    "no line begins so; right would be 0.1 S, 0.1 ends, 0.1 fails, abort set 0, abort 0.1, clear set 0, clear aca 0, reset 0, hard, lost 0, "
-    "power, start 00, 54 56 01 00 00 00 00 01, help, pending, quit\n"
+    "no line begins so; right would be 0.1 S, 0.1 ends, 0.1 fails, 0.1 busy, 0.1 conflict, abort set 0, abort 0.1, clear set 0, clear aca 0, "
+    "reset 0, hard, lost 0, power, start 00, 54 56 01 00 00 00 00 01, help, pending, quit\n"
 )
 # what the help says below its forms
 NOTES = """\
@@ -77,7 +77,7 @@ def try_help(program):
     rows = [re.split(r"\s{2,}", line) for line in shown.splitlines() if re.search(r"\S\s{2,}", line)]
     examples = [example for row in rows for example in row[1:-1]]
     _, clear = program.merged("\n".join(examples).encode())
-    program.compare("help", ("13 forms, 26 examples\n", 0), (f"{len(rows)} forms, {len(examples)} examples\n", clear))
+    program.compare("help", ("15 forms, 30 examples\n", 0), (f"{len(rows)} forms, {len(examples)} examples\n", clear))
     notes = shown[shown.find("  Attributes:"):]
     program.compare("the notes of the help", (NOTES, 0), (notes, 0))
     program.compare("?", (shown.replace("> help", "> ?"), 0), (same, 0))

@@ -6,6 +6,7 @@ import sys
 
 BEGIN = 'a fresh table of policy 00h (QERR 00b, TAS 0); "help" shows what a line may be\n'
 ATTRIBUTES = "S, H, O or A, and behind it naca or exempt or both (without commas)"
+ENDS = "ends, fails, busy or conflict"
 BEGIN += "  nexus 0 to 7 will be told: 6h/29h/00h power on\n"
 
 

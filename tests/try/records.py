@@ -3,7 +3,7 @@ import itertools
 import re
 
 # where each field's ranges end; kinds, firsts, seconds, tags, nexuses
-FIELDS = (range(6), (0, 1, 2, 3, 4, 5, 6, 255), (0, 1, 2, 3, 4, 128), (0, 1, 256), (0, 7, 8, 255))
+FIELDS = (range(6), (0, 1, 2, 3, 4, 5, 6, 8, 0x18, 0x28, 255), (0, 1, 2, 3, 4, 128), (0, 1, 256), (0, 7, 8, 255))
 POLICIES = ("00", "01", "03", "04", "05", "07")
 
 
@@ -11,7 +11,7 @@ def wrong_of(kind, first, second, tag, nexus):
     """The first field that RULES 16 does not take; nothing for an event."""
     if kind not in (1, 2, 3, 4):
         return "kind"
-    if kind == 2 and first not in (0, 2):
+    if kind == 2 and first not in (0, 2, 8, 0x18):
         return "status"
     if kind == 4 and first not in (1, 2, 3):
         return "condition"
