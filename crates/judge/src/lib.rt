@@ -1,3 +1,2 @@
-// The rulings on commands and completions in code, on values: from the header, an event and what searches found to what is to be done.
-pub mod ending;
+// The rulings on commands in code, on values: from the header, a command and what searches found to what is to be done.
 pub mod entry;

@@ -2,9 +2,9 @@
 use decide::turns::Want;
 use decide::turns::is_here;
 use decide::turns::is_named;
+use endings::complete;
 use find::search;
 use find::turn_in;
-use judge::ending::complete;
 use judge::entry::enter;
 use manage::happen;
 use manage::manage;

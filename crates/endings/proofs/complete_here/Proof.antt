@@ -1,6 +1,6 @@
 use borrow.Author.Needs.{needs}
-use Rattle.judge.proofs.ending.complete_here.Statement.{statement}
-use Rattle.judge.proofs.ending.complete_here.Tie as tie
+use Rattle.endings.proofs.complete_here.Statement.{statement}
+use Rattle.endings.proofs.complete_here.Tie as tie
 use Rattle.rules.specs.Rules.{complete}
 
 pub complete-here-spec : {M : Type 1} → statement M

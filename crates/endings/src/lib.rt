@@ -1,4 +1,4 @@
-// Completions.
+// Completions: the rulings on them, on values.
 use decide::states::is_aca;
 use decide::states::is_enabled;
 use decide::turns::Found;

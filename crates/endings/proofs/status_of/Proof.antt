@@ -1,6 +1,6 @@
 use borrow.Author.Needs.{needs}
-use Rattle.judge.proofs.ending.status_of.Statement.{statement}
-use Rattle.judge.proofs.ending.status_of.Tie as tie
+use Rattle.endings.proofs.status_of.Statement.{statement}
+use Rattle.endings.proofs.status_of.Tie as tie
 
 pub status-of-spec : {M : Type 1} → statement M
 status-of-spec =

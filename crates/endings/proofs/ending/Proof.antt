@@ -1,6 +1,6 @@
 use borrow.Author.Needs.{needs}
-use Rattle.judge.proofs.ending.ending.Statement.{statement}
-use Rattle.judge.proofs.ending.ending.Tie as tie
+use Rattle.endings.proofs.ending.Statement.{statement}
+use Rattle.endings.proofs.ending.Tie as tie
 
 pub ending-spec : {M : Type 1} → statement M
 ending-spec =

@@ -1,6 +1,6 @@
 use borrow.Author.Needs.{needs}
-use Rattle.judge.proofs.ending.aca_after.Statement.{statement}
-use Rattle.judge.proofs.ending.aca_after.Tie as tie
+use Rattle.endings.proofs.aca_after.Statement.{statement}
+use Rattle.endings.proofs.aca_after.Tie as tie
 
 pub aca-after-spec : {M : Type 1} → statement M
 aca-after-spec =

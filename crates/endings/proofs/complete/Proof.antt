@@ -1,6 +1,6 @@
 use borrow.Author.Needs.{needs}
-use Rattle.judge.proofs.ending.complete.Statement.{statement}
-use Rattle.judge.proofs.ending.complete.Tie as tie
+use Rattle.endings.proofs.complete.Statement.{statement}
+use Rattle.endings.proofs.complete.Tie as tie
 use Rattle.rules.specs.Rules.{complete}
 
 pub complete-spec : {M : Type 1} → statement M

@@ -8,8 +8,8 @@ use borrow.Author.Needs.{needs}
 use Rattle.rules.specs.Types.{Finish, Good, CheckCondition, Busy, ReservationConflict, Task, Header}
 use Rattle.rules.specs.Rules.{ending, finish}
 use Rattle.values.proofs.Finish as tags
-use Rattle.judge.proofs.ending.finish.Statement.{statement}
-use Rattle.judge.proofs.ending.finish.Tie as tie
+use Rattle.endings.proofs.finish.Statement.{statement}
+use Rattle.endings.proofs.finish.Tie as tie
 
 abbrev others : List ℕ
 others = 0 ∷ 2 ∷ 3 ∷ []
