@@ -11,20 +11,19 @@ use mathlib.Core.Logic.{_⊎_, inl, inr}
 use mathlib.Core.List.{List, [], _∷_, map}
 use mathlib.Core.Option.{some}
 use native.Mathlib.Omega.{arith}
-use lib.ListN.{length, getD}
+use lib.ListN.{length, getD, take, drop}
+use lib.Seq.{split-at}
 use lib.Dec.{eqb}
-use borrow.Author.Tests.{eqb-true, eqb-false, eq-eqb, not-true}
-use Rattle.laws.specs.Lists.{any, first, passing}
-use Rattle.laws.proofs.Bools.{and-true, not-both, cases, split}
-use Rattle.laws.proofs.Lists.{first-any}
+use borrow.Author.Tests.{eqb-true, eqb-false, eq-eqb}
+use Rattle.laws.specs.Lists.{first, passing}
+use Rattle.laws.proofs.Bools.{not-both, cases, split}
 use Rattle.octets.specs.Sizes.{acaOffset, runOffset, firstOffset, statusOffset}
 use Rattle.values.specs.Headers.{runAfter}
 use Rattle.rules.specs.Tasks.{nexuses, acaTask, same, isNamed}
 use Rattle.rules.specs.Bits.{noPending}
 use Rattle.rules.specs.Rulings.{State, turn, pendingOf, answerOf, reportOf, taskName, sameName}
 use Rattle.rules.specs.Rules.{statusOf, ruling, answer, report}
-use Rattle.rules.specs.Well.{distinct}
-use Rattle.rules.proofs.Distinct.{same-parts}
+use Rattle.rules.proofs.Distinct.{distinct-found}
 use Rattle.rules.proofs.Order.{no-aca-task}
 use Rattle.rules.proofs.WellSays.{says-tested}
 use Rattle.rules.proofs.Ruled.{answer-ruled, report-ruled}
@@ -40,7 +39,7 @@ use Rattle.operations.specs.Types.{Naming}
 use Rattle.operations.proofs.Answered.{numberOf, number-done}
 use Rattle.operations.proofs.Names.{named-good}
 use Rattle.operations.proofs.Looked.{no-table, no-report, no-event, ruled-on}
-use Rattle.rules.specs.Types.{Attribute, Task, Finish, Good, CheckCondition, Busy, ReservationConflict, Event, Command, Completion, Management, Condition, Done, BadTable, BadReport, Named, Ruling, Keeps, Changes}
+use Rattle.rules.specs.Types.{Attribute, Finish, Good, CheckCondition, Busy, ReservationConflict, Event, Command, Completion, Management, Condition, Done, BadTable, BadReport, Named, Ruling, Keeps, Changes}
 use Rattle.records.specs.declared.events.EventRead.{EventRead, the-variants.Readable, the-variants.Unreadable}
 use Rattle.numbers.specs.Boundary.{answered, turnFor}
 use Rattle.demands.specs.Calls.{Call}
@@ -83,14 +82,6 @@ other-status-refused t r e good long two other = go (eventOf e) refl
 
 -- What an accepted one does ----------------------------------------------------------------------------------------------------------------
 
--- the completion of a call that is answered 0
-record SoCompleted (t r e : List ℕ) : Type 0 where
-  nexus : ℕ
-  tag : ℕ
-  finish : Finish
-  reaches : Reaches t r e (Completion nexus tag finish)
-  done : answer (stateOf t) (Completion nexus tag finish) ≡ Done
-
 -- RULES 1.15, 1.16 and 14.2: HEAD OF QUEUE, SIMPLE or ORDERED, else ACA
 abbrev pub runBy : ℕ → ℕ → ℕ
 runBy a run = cond (eqb a 1) (min (run + 1) 4) (cond (eqb a 0 || eqb a 2) 0 run)
@@ -102,28 +93,13 @@ run-by a run =
     cases (λ (x : Attribute). runAfter x run ≡ runBy a run) (eqb a 1) (λ y. rw y)
     (λ n1. cases (λ (x : Attribute). runAfter x run ≡ runBy a run) (eqb a 2) (λ y. rw (n1, y, n0)) (λ n2. rw (n1, n0, n2))))
 
--- the task at place i is the one that its name finds
-first-at :
-    (n g : ℕ) (ts : List Task) (i : ℕ) → distinct ts ≡ true → i < length ts → taskName (getD ts i nobody) ≡ record { nexus = n; tag = g }
-    → first (same n g) ts ≡ some (getD ts i nobody)
-first-at n g [] i d l q = absurd (omega arith)
-first-at n g (t ∷ ts) zero d l q =
-    rw (eq-eqb (t .nexus) n (ap (λ (k : Named). k .nexus) q), eq-eqb (t .tag) g (ap (λ (k : Named). k .tag) q))
-first-at n g (t ∷ ts) (suc i) d l q =
-    let o : (not (any (same (t .nexus) (t .tag)) ts) ≡ true) × (distinct ts ≡ true) = and-true _ _ d in
-    let found = first-at n g ts i (o .1) (omega arith) q in
-    split (same n g t)
-    (λ y.
-    let p = same-parts n g t y in
-    let u = getD ts i nobody in
-    let twin : same (t .nexus) (t .tag) u ≡ true =
-    rw (
-      eq-eqb (u .nexus) (t .nexus) (ap (λ (k : Named). k .nexus) q ∙ sym (p .0)),
-      eq-eqb (u .tag) (t .tag) (ap (λ (k : Named). k .tag) q ∙ sym (p .1)),
-    )
-    in
-    not-both (first-any (same n g) (same (t .nexus) (t .tag)) ts u found twin) (not-true (any (same (t .nexus) (t .tag)) ts) (o .0)))
-    (λ y. rw y found)
+-- the completion of a call that is answered 0
+record SoCompleted (t r e : List ℕ) : Type 0 where
+  nexus : ℕ
+  tag : ℕ
+  finish : Finish
+  reaches : Reaches t r e (Completion nexus tag finish)
+  done : answer (stateOf t) (Completion nexus tag finish) ≡ Done
 
 module _ (t r e : List ℕ) where
   so-completed : number t r e ≡ 0 → kindOf e ≡ 2 → SoCompleted t r e
@@ -193,7 +169,16 @@ module _ (t r e : List ℕ) where
       let u = getD (s .tasks) i nobody in
       let is = task-is t i l in
       let name : taskName u ≡ record { nexus = k .nexus; tag = k .tag } = ap taskName is ∙ here ∙ its in
-      let there = first-at (k .nexus) (k .tag) (s .tasks) i (says-tested s (k .reaches .table .well) .apart) (omega (arith, count-is t)) name in
+      let itself : same (k .nexus) (k .tag) u ≡ true =
+      rw (
+        eq-eqb (u .nexus) (k .nexus) (ap (λ (x : Named). x .nexus) name),
+        eq-eqb (u .tag) (k .tag) (ap (λ (x : Named). x .tag) name),
+      )
+      in
+      let there : first (same (k .nexus) (k .tag)) (s .tasks) ≡ some u =
+      distinct-found (k .nexus) (k .tag) (s .tasks) (take i (s .tasks)) u (drop (suc i) (s .tasks)) (split-at (s .tasks) i nobody (omega (arith, count-is t)))
+      (says-tested s (k .reaches .table .well) .apart) itself
+      in
       let who : isNamedBy (turnFor (named t)) (eventName e) ≡ isNamed (k .nexus) (k .tag) (turn s) =
       ap (λ (x : Named). isNamedBy (turnFor (named t)) x) its
       ∙ ap (λ (x : Naming). isNamedBy (turnFor x) (record { nexus = k .nexus; tag = k .tag })) (named-good t (good-table-says t .1 (k .reaches .table)))

@@ -1,7 +1,7 @@
 -- Laws of what looks at no state: restating the tasks leaves it as it was. No two tasks share nexus and tag, and it stays so.
 use Prim.Native.Nat.{ℕ, suc}
 use mathlib.Core.Bool.{Bool, true, false, not}
-use mathlib.Core.Path.{_≡_, refl, ap, sym, _∙_}
+use mathlib.Core.Path.{_≡_, refl, ap, sym, subst, _∙_}
 use mathlib.Core.List.{List, [], _∷_, _++_, map}
 use mathlib.Core.Option.{some}
 use lib.Dec.{eqb}
@@ -9,7 +9,7 @@ use lib.ListN.{length, length-map}
 use borrow.Author.Tests.{not-true, eqb-true}
 use Rattle.laws.specs.Lists.{any, first}
 use Rattle.laws.proofs.Bools.{and-true, or-false, not-both, split, eqb-sym}
-use Rattle.laws.proofs.Lists.{any-append, first-cases, first-any}
+use Rattle.laws.proofs.Lists.{any-append, first-any, first-stands}
 use Rattle.rules.specs.Types.{Attribute, TaskState, Task, Fate, Stays, Ends, Allegiance, Clear, Faulted}
 use Rattle.rules.specs.Tasks.{same, withState, eligible, enabledIf, blockedIfEnabled, settleFrom, restate}
 use Rattle.rules.specs.Rulings.{kept}
@@ -103,17 +103,29 @@ same-parts n g t e =
     let o = and-true (eqb (t .nexus) n) (eqb (t .tag) g) e in
     (eqb-true (t .nexus) n (o .0), eqb-true (t .tag) g (o .1))
 
--- a task of the table is the one that its nexus and tag find
-pub distinct-first :
-    (n g : ℕ) (p : Task → Bool) (ts : List Task) (x : Task) → distinct ts ≡ true → first p ts ≡ some x → same n g x ≡ true
-    → first (same n g) ts ≡ some x
-distinct-first n g p [] x d e h = e
-distinct-first n g p (u ∷ us) x d e h =
-    let o : (not (any (same (u .nexus) (u .tag)) us) ≡ true) × (distinct us ≡ true) = and-true _ _ d in
-    first-cases p u us x e (λ a b. rw (b, h))
-    (λ a b.
+distinct-stands :
+    (n g : ℕ) (older : List Task) (x : Task) (younger : List Task) → distinct (older ++ (x ∷ younger)) ≡ true → same n g x ≡ true
+    → first (same n g) (older ++ (x ∷ younger)) ≡ some x
+distinct-stands n g [] x younger d h = rw h
+distinct-stands n g (u ∷ us) x younger d h =
+    let ts = us ++ (x ∷ younger) in
+    let o : (not (any (same (u .nexus) (u .tag)) ts) ≡ true) × (distinct ts ≡ true) = and-true _ _ d in
+    let found = distinct-stands n g us x younger (o .1) h in
     split (same n g u)
     (λ y.
     let q = same-parts n g u y in
-    not-both (first-any p (same (u .nexus) (u .tag)) us x b (rw (q .0, q .1) h)) (not-true _ (o .0)))
-    (λ y. rw y (distinct-first n g p us x (o .1) b h)))
+    not-both (first-any (same n g) (same (u .nexus) (u .tag)) ts x found (rw (q .0, q .1) h)) (not-true _ (o .0)))
+    (λ y. rw y found)
+
+-- a task of the table, wherever it stands, is the one that its nexus and tag find
+pub distinct-found :
+    (n g : ℕ) (ts older : List Task) (x : Task) (younger : List Task) → ts ≡ older ++ (x ∷ younger) → distinct ts ≡ true → same n g x ≡ true
+    → first (same n g) ts ≡ some x
+distinct-found n g ts older x younger stands d h =
+    subst (λ l. first (same n g) l ≡ some x) (sym stands) (distinct-stands n g older x younger (subst (λ l. distinct l ≡ true) stands d) h)
+
+-- and so is one that another search finds
+pub distinct-first :
+    (n g : ℕ) (p : Task → Bool) (ts : List Task) (x : Task) → distinct ts ≡ true → first p ts ≡ some x → same n g x ≡ true
+    → first (same n g) ts ≡ some x
+distinct-first n g p ts x d e h = let s = first-stands p ts x e in distinct-found n g ts (s .0) x (s .1) (s .2) d h
