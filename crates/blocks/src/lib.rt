@@ -1,4 +1,6 @@
 // RULES 24.9 and 24.10: blocks of totals put into a buffer. Each function returns where its bytes end.
+#![tactic(auto)]
+
 ghost use Rattle.std.specs.Prelude.{◌+◌, ◌*◌, ◌≤◌, ◌≡◌, [], ◌∷◌, ◌++◌, length, take};
 ghost use Rattle.io.specs.Counts.{IsPrefixLen};
 ghost use Rattle.lines.specs.Lines.{hex, Written};

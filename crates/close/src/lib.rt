@@ -1,4 +1,6 @@
 // Kept records closed up in place, and vacated ones cleared.
+#![tactic(auto)]
+
 ghost use Rattle.std.specs.Prelude.{◌≡◌, ◌+◌, ◌-◌, ◌≤◌, length, drop};
 ghost use Rattle.octets.specs.Sizes.{tasks_at, table_size};
 ghost use Rattle.rules.specs.Tasks.{places};

@@ -1,4 +1,6 @@
 // RULES 1.3 and 20.1 to 20.5: what the C port driver calls: numbers and byte slices, whatever their lengths and whatever they hold.
+#![tactic(auto)]
+
 mod apply;
 mod name;
 mod start;

@@ -1,1 +1,2 @@
 // The mission's three demands over bytes: specs/ and proofs/.
+#![tactic(auto)]

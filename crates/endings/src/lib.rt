@@ -1,4 +1,6 @@
 // Completions: the rulings on them, on values.
+#![tactic(auto)]
+
 ghost use Rattle.std.specs.Prelude.{◌≡◌};
 ghost use Rattle.std.proofs.Math.Option.{some};
 ghost use Rattle.rules.specs.Rules.{aca_after, status_of};

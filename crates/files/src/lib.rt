@@ -1,4 +1,6 @@
 // RULES 24.6, 24.10 and 24.12: a named log read to its end in stretches, each as long as a read makes it.
+#![tactic(auto)]
+
 ghost use Rattle.std.specs.Prelude.{◌≤◌, ◌≡◌, true, [], length, take, replicate};
 ghost use Rattle.records.specs.Records.{event_size};
 ghost use Rattle.tallies.specs.Counters.{counters};

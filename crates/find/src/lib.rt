@@ -1,4 +1,6 @@
 // Searches over the used records, and whose turn it is.
+#![tactic(auto)]
+
 ghost use Rattle.std.specs.Prelude.{◌≡◌, ◌≤◌, length, drop};
 ghost use Rattle.laws.specs.Lists.{first};
 ghost use Rattle.octets.specs.Sizes.{tasks_at, table_size};

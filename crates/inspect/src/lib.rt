@@ -1,2 +1,4 @@
 // Whether a table is well formed.
+#![tactic(auto)]
+
 pub mod fits;

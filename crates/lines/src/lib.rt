@@ -1,4 +1,6 @@
 // Lines put into a buffer at a place; each function returns where its bytes end.
+#![tactic(auto)]
+
 ghost use Rattle.std.specs.Prelude.{◌+◌, ◌<◌, ◌≤◌, ◌≡◌, [], ◌∷◌, length};
 ghost use Rattle.lines.specs.Lines.{digit as Lines·digit, decimal, hex, line, Written};
 

@@ -1,4 +1,6 @@
 // Management functions and conditions: the rulings on them, on values.
+#![tactic(auto)]
+
 ghost use Rattle.std.specs.Prelude.{◌≡◌};
 ghost use Rattle.rules.specs.Rules.{resetting, clearing, clearing_set, aca_without, losing};
 

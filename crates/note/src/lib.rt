@@ -1,4 +1,6 @@
 // Who is told: the nexus records after a notice.
+#![tactic(auto)]
+
 ghost use Rattle.std.specs.Prelude.{◌≡◌, cond, ◌≤◌, length, drop};
 ghost use Rattle.laws.specs.Lists.{any};
 ghost use Rattle.octets.specs.Sizes.{tasks_at, table_size};

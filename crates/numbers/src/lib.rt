@@ -1,4 +1,6 @@
 // RULES 20.1 and 20.2: answers in their numbers, laid out as C reads them.
+#![tactic(auto)]
+
 ghost use Rattle.std.specs.Prelude.{◌≡◌};
 ghost use Rattle.numbers.specs.Boundary.{numbers_of, turn_in_numbers};
 

@@ -1,4 +1,6 @@
 // Bytes of a slice as records, and numbers in bytes.
+#![tactic(auto)]
+
 pub mod sizes;
 pub mod tagged;
 pub mod untagged;

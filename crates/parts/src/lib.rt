@@ -1,4 +1,6 @@
 // What rulings are made of: what the checks at entry ask, and the pieces that more than one ruling has.
+#![tactic(auto)]
+
 ghost use Rattle.std.specs.Prelude.{◌≡◌, cond, leb};
 ghost use Rattle.rules.specs.Tasks.{places};
 ghost use Rattle.rules.specs.Bits.{top};

@@ -1,4 +1,6 @@
 // RULES 24: plays event records from standard input and writes a line for each.
+#![tactic(auto)]
+
 mod play;
 mod streams;
 

@@ -1,4 +1,6 @@
 // Records of bytes to values and back.
+#![tactic(auto)]
+
 pub mod events;
 pub mod header;
 pub mod nexus;

@@ -1,4 +1,6 @@
 // The ended tasks listed in their former age order, and the rest of the report zeroed.
+#![tactic(auto)]
+
 ghost use Rattle.std.specs.Prelude.{◌≡◌, ◌≤◌, ◌<◌, length, drop, replicate};
 ghost use Rattle.octets.specs.Sizes.{tasks_at, table_size, report_size};
 ghost use Rattle.rules.specs.Tasks.{places};

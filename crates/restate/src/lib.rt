@@ -1,4 +1,6 @@
 // States settled, or blocked, in place: of a record only the state byte is stored.
+#![tactic(auto)]
+
 ghost use Rattle.std.specs.Prelude.{◌≡◌, ◌≤◌, length};
 ghost use Rattle.octets.specs.Sizes.{table_size};
 ghost use Rattle.rules.specs.Tasks.{places};

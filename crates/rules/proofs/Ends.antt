@@ -23,7 +23,7 @@ lost_within : {A : Type 0} (fs : List Fate) (xs : List A) → Sublist (lost fs x
 lost_within [] xs = nil-sublist xs
 lost_within (f ∷ fs) [] = nil-sublist []
 lost_within (Stays ∷ fs) (x ∷ xs) = Sublist.cons x (lost_within fs xs)
-lost_within (Ends st ∷ fs) (x ∷ xs) = Sublist.cons_cons x (lost_within fs xs)
+lost_within (Ends st ∷ fs) (x ∷ xs) = Sublist.cons-cons x (lost_within fs xs)
 
 -- RULES 4.9: the names in the report are those in the table, in its order, some left out
 pub report_within : (s : State) (e : Event) → Sublist (map ended_name (report s e)) (map task_name s.tasks)

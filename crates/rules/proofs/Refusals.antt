@@ -201,6 +201,9 @@ absent_says s e low = (λ a. rw a at (says s e), back e low)
         go : (o : Option Task) → first (same n g) s.tasks ≡ o → answer_of (complete s.header o f (is_named n g (turn s))) ≡ NoSuchTask
         go none q = refl
         go (some t) q = not_both (first_any (same n g) (same n g) s.tasks t q (first_passes (same n g) s.tasks t q)) x
+    back (Command _) l x = elim x [ ]
+    back (Management _ _) l x = elim x [ ]
+    back (Condition _) l x = elim x [ ]
 
 -- RULES 12.1, answer 6: exactly where it completes one that is there and not enabled
 pub waits_says : (s : State) (e : Event) → WellFormed s → nexus_of e < nexuses → (answer s e ≡ NotEnabled) ↔ Waits s e
@@ -223,6 +226,9 @@ waits_says s e w low = (λ a. rw a at (says s e), back e low)
               distinct_first n g waiting s.tasks t (says_tested s w).apart q o.0,
               not-true (enabled_task t) o.1,
             )
+    back (Command _) l x = elim x [ ]
+    back (Management _ _) l x = elim x [ ]
+    back (Condition _) l x = elim x [ ]
 
 -- RULES 12.2, answer 7: exactly where the event is a command that one of the checks 1 to 5 stops
 pub entry_says :
@@ -240,6 +246,9 @@ entry_says s e w low = (λ a. (rw a.2 at (says s e)).0 w, back e low)
         (λ se v o. (_, _, refl))
         (λ st. (_, _, refl))
         (λ p. absurd (not_stopped s c w p x)))
+    back (Completion _ _ _) l x = elim x [ ]
+    back (Management _ _) l x = elim x [ ]
+    back (Condition _) l x = elim x [ ]
 
 -- RULES 12.4, answer 8: exactly where the function is unknown, or CLEAR ACA from another nexus than the faulted one
 pub rejected_says : (s : State) (e : Event) → nexus_of e < nexuses → (answer s e ≡ Rejected) ↔ RejectedBy s e
@@ -250,6 +259,13 @@ rejected_says s e low = (λ a. rw a at (says s e), back e low)
     back (Management n Unknown) l unknown_function = rw (answer_low s (Management n Unknown) l, rule_management s n Unknown)
     back (Management n ClearAca) l (not_faulted {f} a ne) =
         rw (answer_low s (Management n ClearAca) l, rule_management s n ClearAca, a, ne_eqb n f ne)
+    back (Command _) l x = elim x [ ]
+    back (Completion _ _ _) l x = elim x [ ]
+    back (Management _ (AbortTask _)) l x = elim x [ ]
+    back (Management _ AbortTaskSet) l x = elim x [ ]
+    back (Management _ ClearTaskSet) l x = elim x [ ]
+    back (Management _ LogicalUnitReset) l x = elim x [ ]
+    back (Condition _) l x = elim x [ ]
 
 -- RULES 18.2: no sense without 02h
 pub sense_with_check :

@@ -1,5 +1,7 @@
 // What the steps share: which fates and sweeps end somebody. What each step makes of the bytes is in specs/, its laws
 // in proofs/; the loops themselves are in `report`, `note`, `close` and `restate`.
+#![tactic(auto)]
+
 ghost use Rattle.std.specs.Prelude.{◌≡◌};
 ghost use Rattle.steps.specs.Steps.{ends_fate, ends_nobody};
 

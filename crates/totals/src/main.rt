@@ -1,4 +1,6 @@
 // RULES 24.6 to 24.13: adds up the logs of event records that it is named.
+#![tactic(auto)]
+
 ghost use Rattle.std.specs.Prelude.{◌+◌, ◌≤◌, ◌≡◌, length};
 ghost use Rattle.records.specs.Records.{event_size};
 ghost use Rattle.tallies.specs.Counters.{counters};

@@ -1,5 +1,7 @@
 // RULES 1.4: the lower layer's values: tasks, header, events, unit attentions, answers, rulings. No byte of the table is known here. They are declared at the
 // root, under their short paths (docs/SPEED.md).
+#![tactic(auto)]
+
 mod headers;
 
 // ---- RULES 1.1 and 1.5: how many there are at most; specs/Limits.antt has the same numbers for contracts and laws.
@@ -21,7 +23,7 @@ pub type Tag = u16;
 pub const TAG_MAX: Tag = u16::MAX;
 
 // RULES 1.6
-#[derive(Drop)]
+#[derive(Clone, Copy)]
 pub enum Attribute {
     Simple,
     HeadOfQueue,
@@ -30,7 +32,7 @@ pub enum Attribute {
 }
 
 // RULES 1.7
-#[derive(Drop)]
+#[derive(Clone, Copy)]
 pub enum TaskState {
     Dormant,
     Enabled,
@@ -38,7 +40,7 @@ pub enum TaskState {
 }
 
 // RULES 1.8
-#[derive(Drop)]
+#[derive(Clone, Copy)]
 pub struct Task {
     pub nexus: u8,
     pub attribute: Attribute,
@@ -50,7 +52,7 @@ pub struct Task {
 // ---- RULES 1.9 and 1.10: the header's state: policy, task count, ACA and run.
 
 // RULES 1.9: QERR 00b, 01b and 11b.
-#[derive(Drop)]
+#[derive(Clone, Copy)]
 pub enum Qerr {
     EndNone,
     EndAll,
@@ -58,21 +60,21 @@ pub enum Qerr {
 }
 
 // RULES 1.9
-#[derive(Drop)]
+#[derive(Clone, Copy)]
 pub struct Policy {
     pub qerr: Qerr,
     pub tas: bool,
 }
 
 // RULES 1.10: whether an auto contingent allegiance is in effect, and for which nexus.
-#[derive(Drop)]
+#[derive(Clone, Copy)]
 pub enum Allegiance {
     Clear,
     Faulted(u8),
 }
 
 // RULES 1.10
-#[derive(Drop)]
+#[derive(Clone, Copy)]
 pub struct Header {
     pub policy: Policy,
     pub count: u8,
@@ -83,14 +85,14 @@ pub struct Header {
 // ---- RULES 1.11: what can happen to the set.
 
 // RULES 16.1: the attribute that a COMMAND asks for: one of the four, or a byte that is none of them.
-#[derive(Drop)]
+#[derive(Clone, Copy)]
 pub enum Asked {
     Known(Attribute),
     NoneOfFour,
 }
 
 // RULES 1.2 and 16.1: a COMMAND's fields; of its command block NACA and exempt, and no more.
-#[derive(Drop)]
+#[derive(Clone, Copy)]
 pub struct Entry {
     pub nexus: u8,
     pub asked: Asked,
@@ -100,7 +102,7 @@ pub struct Entry {
 }
 
 // RULES 16.2: the status that a COMPLETION brings.
-#[derive(Drop)]
+#[derive(Clone, Copy)]
 pub enum Finish {
     Good,
     CheckCondition,
@@ -109,7 +111,7 @@ pub enum Finish {
 }
 
 // RULES 16.3: what a MANAGEMENT asks for; ABORT TASK has its own tag.
-#[derive(Drop)]
+#[derive(Clone, Copy)]
 pub enum Function {
     AbortTask(Tag),
     AbortTaskSet,
@@ -120,7 +122,7 @@ pub enum Function {
 }
 
 // RULES 16.4: what a CONDITION reports.
-#[derive(Drop)]
+#[derive(Clone, Copy)]
 pub enum Happening {
     PowerOn,
     HardReset,
@@ -128,7 +130,7 @@ pub enum Happening {
 }
 
 // RULES 1.11. The first number of COMPLETION and MANAGEMENT is the nexus.
-#[derive(Drop)]
+#[derive(Clone, Copy)]
 pub enum Event {
     Command(Entry),
     Completion(u8, Tag, Finish),
@@ -139,7 +141,7 @@ pub enum Event {
 // ---- RULES 1.12: the unit attentions that wait for a nexus.
 
 // RULES 1.12 and 3.1: several can be set at once.
-#[derive(Drop)]
+#[derive(Clone, Copy)]
 pub struct Pending {
     pub power: bool,
     pub hard: bool,
@@ -149,7 +151,7 @@ pub struct Pending {
 }
 
 // RULES 3.1: one of the five, highest rank first.
-#[derive(Drop)]
+#[derive(Clone, Copy)]
 pub enum Bit {
     PowerBit,
     HardBit,
@@ -159,7 +161,7 @@ pub enum Bit {
 }
 
 // RULES 3.1: the bit of highest rank, where one is set.
-#[derive(Drop)]
+#[derive(Clone, Copy)]
 pub enum Top {
     NoBit,
     Highest(Bit),
@@ -168,7 +170,7 @@ pub enum Top {
 // ---- RULES 18: what a caller is told.
 
 // RULES 18.2
-#[derive(Drop)]
+#[derive(Clone, Copy)]
 pub struct Sense {
     pub key: u8,
     pub code: u8,
@@ -176,7 +178,7 @@ pub struct Sense {
 }
 
 // RULES 18.1: answers 0 to 9, in the order of their numbers. A bad table, report, event or policy is the byte layer's to find.
-#[derive(Drop)]
+#[derive(Clone, Copy)]
 pub enum Answer {
     Done,
     BadTable,
@@ -193,14 +195,14 @@ pub enum Answer {
 // ---- RULES 4 and 9.4: what the rules decide about an event: plain values, which the byte layer carries out.
 
 // RULES 4.3: what an event does to one task that is there.
-#[derive(Drop)]
+#[derive(Clone, Copy)]
 pub enum Fate {
     Stays,
     Ends(u8),
 }
 
 // RULES 4.4 and 4.9: a task that ended, with the status to send for it, or FFh for none.
-#[derive(Drop)]
+#[derive(Clone, Copy)]
 pub struct Ended {
     pub nexus: u8,
     pub status: u8,
@@ -208,7 +210,7 @@ pub struct Ended {
 }
 
 // RULES 4.3 to 4.6: which tasks an event ends, and with which status.
-#[derive(Drop)]
+#[derive(Clone, Copy)]
 pub enum Sweep {
     Nobody,
     // the task of this nexus and tag, with this status
@@ -226,7 +228,7 @@ pub enum Sweep {
 }
 
 // RULES 3.4 to 3.9 and 4.7: what becomes of the pending bits.
-#[derive(Drop)]
+#[derive(Clone, Copy)]
 pub enum Notice {
     Quiet,
     // this bit of this nexus was reported
@@ -243,14 +245,14 @@ pub enum Notice {
 }
 
 // RULES 4.8: the task that joins, if one does.
-#[derive(Drop)]
+#[derive(Clone, Copy)]
 pub enum Joins {
     NoTask,
     NewTask(Task),
 }
 
 // RULES 4.8
-#[derive(Drop)]
+#[derive(Clone, Copy)]
 pub struct Change {
     pub sweep: Sweep,
     pub joins: Joins,
@@ -259,21 +261,21 @@ pub struct Change {
 }
 
 // RULES 9.4: either the set stays as it is, or it changes.
-#[derive(Drop)]
+#[derive(Clone, Copy)]
 pub enum Ruling {
     Keeps(Answer),
     Changes(Answer, Change),
 }
 
 // RULES 2.1 and 2.10 to 2.12: whom the turn rule names.
-#[derive(Drop)]
+#[derive(Clone, Copy)]
 pub struct Named {
     pub nexus: u8,
     pub tag: Tag,
 }
 
 // RULES 2.10 to 2.12
-#[derive(Drop)]
+#[derive(Clone, Copy)]
 pub enum Turn {
     Nothing,
     Names(Named),
@@ -282,14 +284,14 @@ pub enum Turn {
 // ---- RULES 19: what the operations say; the numbers of each answer are in operations/specs/AnswerNumbers.
 
 // RULES 19.2: the answer to an event, and the ended count.
-#[derive(Drop)]
+#[derive(Clone, Copy)]
 pub struct Applied {
     pub answer: Answer,
     pub ended: u8,
 }
 
 // RULES 19.4: whose turn it is.
-#[derive(Drop)]
+#[derive(Clone, Copy)]
 pub struct Naming {
     pub answer: Answer,
     pub turn: Turn,
