@@ -7,7 +7,7 @@ ghost use Rattle.decide.specs.OlderTasks.{no_older, behind_by, eligible_by, fits
 use values::{Allegiance, Attribute, Task, TaskState};
 
 // What older tasks there are: any at all, and any that is HEAD OF QUEUE or ORDERED.
-#[derive(Drop)]
+#[derive(Clone, Copy)]
 pub struct Older {
     pub any: bool,
     pub barrier: bool,

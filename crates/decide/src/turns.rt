@@ -8,7 +8,7 @@ use crate::states::{is_aca, is_enabled, is_head, is_plain};
 use values::{Named, Tag, Task, Turn};
 
 // What a search looks for: the oldest enabled HEAD OF QUEUE task, the oldest enabled SIMPLE or ORDERED one, the ACA task, or the task of a nexus and tag.
-#[derive(Drop)]
+#[derive(Clone, Copy)]
 pub enum Want {
     TheHead,
     ThePlain,
@@ -16,7 +16,7 @@ pub enum Want {
     TheTask(u8, Tag),
 }
 
-#[derive(Drop)]
+#[derive(Clone, Copy)]
 pub enum Found {
     Nowhere,
     Here(Task),

@@ -5,7 +5,7 @@ ghost use Rattle.logs.specs.Walking.{Ready, StoodAt};
 
 use crate::play::play_from;
 
-#[derive(Drop)]
+#[derive(Clone, Copy)]
 pub struct LogReader<'a> {
     pub stretch: &'a [u8],
     pub at: usize,

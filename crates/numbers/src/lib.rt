@@ -7,7 +7,7 @@ ghost use Rattle.numbers.specs.Boundary.{numbers_of, turn_in_numbers};
 use values::{Answer, Tag, Turn};
 
 #[repr(C)]
-#[derive(Drop)]
+#[derive(Clone, Copy)]
 pub struct Answered {
     pub answer: u8,
     pub status: u8,
@@ -18,7 +18,7 @@ pub struct Answered {
 }
 
 #[repr(C)]
-#[derive(Drop)]
+#[derive(Clone, Copy)]
 pub struct NamedTurn {
     pub answer: u8,
     pub found: bool,

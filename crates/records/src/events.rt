@@ -8,7 +8,7 @@ use octets::tagged::get_tagged;
 use octets::{bit_of, is_mark, tag_in};
 use values::{Asked, Entry, Event, Finish, Function, Happening, Tag};
 
-#[derive(Drop)]
+#[derive(Clone, Copy)]
 pub enum EventRead {
     Readable(Event),
     Unreadable,
