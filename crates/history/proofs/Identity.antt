@@ -1,6 +1,6 @@
 -- Who is who: the tasks in the table and the ended records are those of the commands accepted.
 use Prim.Native.Nat.{ℕ, suc, ◌+◌, ◌≤◌}
-use mathlib.Core.Path.{◌≡◌, refl, ap, sym, ◌∙◌}
+use mathlib.Core.Path.{◌≡◌, refl, ap, sym, subst, ◌∙◌}
 use mathlib.Core.Bool.{false}
 use mathlib.Core.List.{List, [], ◌∷◌, ◌++◌, map, append-nil, map-append, map-map}
 use native.Mathlib.Omega.{arith}
@@ -29,11 +29,9 @@ below_more n m ks l = any_less (leb n) (leb m) ks (λ k e. lt-leb m k (omega (ar
 below_serials : (n : ℕ) (js : List Task) → Below (n + length js) (serials_from n js)
 below_serials n [] = refl
 below_serials n (j ∷ js) =
-    rw (
-      lt-leb (n + suc (length js)) n (omega arith),
-      (let z : n + suc (length js) ≡ suc n + length js = omega arith in z),
-    )
-    (below_serials (suc n) js)
+    let z : n + length (j ∷ js) ≡ suc n + length js = omega arith in
+    subst (λ (m : ℕ). any (leb m) (serials_from n (j ∷ js)) ≡ false) (sym z)
+    (rw (lt-leb (suc n + length js) n (omega arith)) (below_serials (suc n) js))
 
 module _ {B : Type 0} (f : Task → B) where
   pub look_more :
@@ -48,8 +46,9 @@ module _ {B : Type 0} (f : Task → B) where
       (roll js : List Task) (n : ℕ) → length roll ≡ n → map (λ k. f (look (roll ++ js) k)) (serials_from n js) ≡ map f js
   look_serials roll [] n e = refl
   look_serials roll (j ∷ js) n e =
-      rw (get_or_at roll j js nobody n e, ← (append_snoc roll j js))
-      (ap (λ l. f j ∷ l) (look_serials (roll ++ (j ∷ [])) js (suc n) (simp length-append (omega arith))))
+      rw (get_or_at roll j js nobody n e)
+      (subst (λ (r : List Task). f j ∷ map (λ k. f (look r k)) (serials_from (suc n) js) ≡ f j ∷ map f js) (append_snoc roll j js)
+      (ap (λ l. f j ∷ l) (look_serials (roll ++ (j ∷ [])) js (suc n) (simp length-append (omega arith)))))
 
 pub record Known (h : Past) : Type 0 where
   pub present_below : Below (length h.roll) h.present
