@@ -1,7 +1,7 @@
 -- Who is told, done to the table of a state.
 use Prim.Native.Nat.{ℕ, zero, suc, ◌+◌, ◌<◌}
 use mathlib.Core.Bool.{Bool, true, false, cond, ◌&&◌, not}
-use mathlib.Core.Path.{◌≡◌, refl, ap, sym, ◌∙◌}
+use mathlib.Core.Path.{◌≡◌, refl, ap, sym, subst, ◌∙◌}
 use mathlib.Core.List.{List, [], ◌∷◌, ◌++◌, map}
 use native.Mathlib.Omega.{arith}
 use native.Mathlib.Numerals.{add-one}
@@ -49,10 +49,11 @@ one_set : (f : Pending → Pending) (i m : ℕ) (ps : List Pending) → one_at f
 unfolding one_at
 one_set f i m [] = refl
 one_set f i zero (p ∷ ps) =
-    rw ((let z : i + 0 ≡ i = omega arith in z), eq-eqb i i refl) (ap (λ (l : List Pending). f p ∷ l) (one_past f i (suc i) ps (omega arith)))
+    rw (eq-eqb i (i + 0) (omega arith)) (ap (λ (l : List Pending). f p ∷ l) (one_past f (i + 0) (suc i) ps (omega arith)))
 one_set f i (suc m) (p ∷ ps) =
-    rw ((let z : i + suc m ≡ suc i + m = omega arith in z), ne_eqb i (suc i + m) (λ e. omega arith))
-    (ap (λ (l : List Pending). p ∷ l) (one_set f (suc i) m ps))
+    let z : i + suc m ≡ suc i + m = omega arith in
+    subst (λ (n : ℕ). one_at f n i (p ∷ ps) ≡ p ∷ set ps m (f (get_or ps m no_pending))) (sym z)
+    (rw (ne_eqb i (suc i + m) (λ e. omega arith)) (ap (λ (l : List Pending). p ∷ l) (one_set f (suc i) m ps)))
 
 from_one : (f : Pending → Pending) (k : Notice) (n : ℕ) (ls : List Task) (i : ℕ) (ps : List Pending)
     → ((i : ℕ) (b : Bool) (p : Pending) → noted_one k i b p ≡ cond (eqb i n) (f p) p) → noted_from k ls i ps ≡ one_at f n i ps
