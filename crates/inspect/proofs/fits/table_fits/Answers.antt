@@ -1,0 +1,29 @@
+use Rattle.std.proofs.Common.{false, refl, sym, ◌∙◌, length, arith}
+use borrow.Author.Tests.{eq-eqb, ne_eqb}
+use Rattle.octets.specs.Sizes.{table_size}
+use Rattle.inspect.proofs.TableTest.{count_fits, by_tests}
+use Rattle.inspect.proofs.fits.table_fits.Goals as goal
+
+pub returns-then-t-ne-TABLE_SIZE : goal.returns-then-t-ne-TABLE_SIZE
+returns-then-t-ne-TABLE_SIZE c =
+    let t = c.args.t.now in
+    by_tests t _ refl (λ i. (c.type_inv.t i).fits) false (rw (ne_eqb (length t) table_size (λ e. omega (arith, c.if-t-ne-TABLE_SIZE.true))))
+
+pub returns-then-not-header_fits : goal.returns-then-not-header_fits
+returns-then-not-header_fits c =
+    by_tests c.args.t.now c.load_untagged-r.result c.load_untagged-r.ensures (λ i. (c.type_inv.t i).fits) false
+    (rw (eq-eqb _ _ c.if-t-ne-TABLE_SIZE.false, ← c.header_fits.ensures, c.if-not-header_fits.true))
+
+pub records_fit-requires : goal.records_fit-requires
+records_fit-requires c = (
+    c.if-t-ne-TABLE_SIZE.false,
+    rw (c.header_in-h.ensures, ← c.load_untagged-r.ensures)
+        (count_fits c.args.t.now c.load_untagged-r.result c.load_untagged-r.ensures c.if-t-ne-TABLE_SIZE.false
+        (sym c.header_fits.ensures ∙ c.if-not-header_fits.false)),
+  )
+
+pub returns : goal.returns
+returns c =
+    by_tests c.args.t.now c.load_untagged-r.result c.load_untagged-r.ensures (λ i. (c.type_inv.t i).fits) _
+    (rw (eq-eqb _ _ c.if-t-ne-TABLE_SIZE.false, ← c.header_fits.ensures, c.if-not-header_fits.false)
+    (rw (c.header_in-h.ensures, ← c.load_untagged-r.ensures) at c.records_fit.ensures))
