@@ -43,7 +43,7 @@ use Rattle.history.specs.History.{nobody}
 use Rattle.operations.specs.AnswerNumbers.{said}
 use Rattle.operations.specs.Operations.{Outcome, carried, outcome}
 use Rattle.operations.proofs.Answered.{number_of, number_at_entry, writes_report_ended}
-use Rattle.rules.specs.Types.{Task, Entry, Event, Command, EndAll, Policy, Allegiance, Clear, Faulted, Ended, Sense, Answer, EndedAtEntry, Ruling, Keeps, Changes, Named}
+use Rattle.rules.specs.Types.{Task, Entry, Event, Command, Completion, Management, Condition, EndAll, Policy, Allegiance, Clear, Faulted, Ended, Sense, Answer, EndedAtEntry, Ruling, Keeps, Changes, Named}
 use Rattle.records.specs.declared.events.EventRead.{TheVariants.Readable}
 use Rattle.numbers.specs.Boundary.{answered}
 use Rattle.demands.specs.Seen.{event_name, names_from, task_at, present_in, is_listed}
@@ -162,6 +162,9 @@ module _ (t r e : List ℕ) where
             reaches = h;
             says = answer_ruled (state_of t) (Command c) ∙ sym on ∙ q ∙ ap (λ (a : Answer). EndedAtEntry (said a).status se) (sym q);
           })
+      go (Completion _ _ _) h x = elim x [ ]
+      go (Management _ _) h x = elim x [ ]
+      go (Condition _) h x = elim x [ ]
 
   -- what the rules answer it, where the status is 02h
   says_two : (k : SoEnded t r e) → (answered (outcome t r e)).status ≡ 0x02 → answer (state_of t) (Command k.command) ≡ EndedAtEntry 0x02 k.sense
