@@ -2,13 +2,13 @@
 #![tactic(auto)]
 
 ghost use Rattle.std.specs.Prelude.{◌+◌, ◌<◌, ◌≤◌, ◌≡◌, [], ◌∷◌, length};
-ghost use Rattle.lines.specs.Lines.{digit as Lines·digit, decimal, hex, line, Written};
+ghost use Rattle.lines.specs.Lines.{digit, decimal, hex, line, Written};
 
 use numbers::Answered;
 
 fn digit(d: u8) -> u8
     requires { d < 16 }
-    ensures { result ≡ Lines·digit d }
+    ensures { result ≡ digit d }
 {
     if d < 10 { 48 + d } else { 55 + d }
 }
