@@ -1,4 +1,5 @@
-// RULES 1.3 and 20.1 to 20.5: what the C port driver calls: numbers and byte slices, whatever their lengths and whatever they hold.
+// RULES 1.3 and 20.1 to 20.5: what the C port driver calls: numbers and byte slices, whatever their lengths and whatever they hold. C calls them through
+// dedakhumi_c, which exports them under these names.
 #![tactic(auto)]
 
 mod apply;
@@ -12,16 +13,14 @@ use crate::name::name;
 use crate::start::start;
 use numbers::{Answered, NamedTurn, in_numbers, turn_in_numbers};
 
-#[unsafe(no_mangle)]
-pub extern "C" fn dedakhumi_start(table: &mut [u8], policy: u8) -> u8
+pub fn dedakhumi_start(table: &mut [u8], policy: u8) -> u8
     ensures { StartsAs table.old policy result table.new }
 {
     let a = start(table, policy);
     in_numbers(a, 0).answer
 }
 
-#[unsafe(no_mangle)]
-pub extern "C" fn dedakhumi_apply(table: &mut [u8], report: &mut [u8], event: &[u8]) -> Answered
+pub fn dedakhumi_apply(table: &mut [u8], report: &mut [u8], event: &[u8]) -> Answered
     ensures { AppliesAs table.old report.old event.now result table.new report.new }
 {
     let a = apply(table, report, event);
@@ -29,8 +28,7 @@ pub extern "C" fn dedakhumi_apply(table: &mut [u8], report: &mut [u8], event: &[
     in_numbers(answer, a.ended)
 }
 
-#[unsafe(no_mangle)]
-pub extern "C" fn dedakhumi_name(table: &[u8]) -> NamedTurn
+pub fn dedakhumi_name(table: &[u8]) -> NamedTurn
     ensures { NamesAs table.now result }
 {
     let n = name(table);
