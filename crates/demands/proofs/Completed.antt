@@ -22,7 +22,7 @@ use Rattle.values.specs.Headers.{run_after}
 use Rattle.rules.specs.Tasks.{nexuses, aca_task, same, is_named}
 use Rattle.rules.specs.Bits.{no_pending}
 use Rattle.rules.specs.Rulings.{State, turn, pending_of, answer_of, report_of, task_name, same_name}
-use Rattle.rules.specs.Rules.{status_of, ruling, answer, report}
+use Rattle.rules.specs.Rules.{status_of, ruling, answer}
 use Rattle.rules.proofs.Distinct.{distinct_found}
 use Rattle.rules.proofs.Order.{no_aca_task}
 use Rattle.rules.proofs.WellSays.{says_tested}

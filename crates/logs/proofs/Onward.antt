@@ -15,10 +15,10 @@ use Rattle.history.specs.History.{Past, begin, advance, play, after}
 use Rattle.history.proofs.Advanced.{play_append}
 use Rattle.history.proofs.Reached.{tested_after}
 use Rattle.demands.specs.Calls.{opened}
-use Rattle.tallies.specs.Tally.{statuses, events_from, events_of, each_from, by_status, entries_with, largest_over, tally_of}
+use Rattle.tallies.specs.Tally.{statuses, events_from, events_of, by_status, entries_with, largest_over, tally_of}
 use Rattle.tallies.specs.Counters.{entry_at, accepted_at, largest_at, left_at, counters}
 use Rattle.tallies.proofs.Numbered.{length_each, get_d_each, zero_at}
-use Rattle.tallies.proofs.Telling.{Tells, tells_same, TellsOf, shows_tells, tells_shows}
+use Rattle.tallies.proofs.Telling.{tells_same, shows_tells, tells_shows}
 use Rattle.logs.specs.SoFar.{wholes, rest, SoFar}
 use Rattle.logs.specs.Walking.{Standing, standing, walk_over, Ready, TakenAs}
 use Rattle.logs.proofs.Events.{events_onward, rest_onward}

@@ -1,17 +1,16 @@
 -- The counters, the table and the history of the events keep step, piece by piece.
-use Prim.Native.Nat.{ℕ, zero, suc, ◌+◌, ◌-◌, ◌*◌, ◌^◌, ◌<◌, ◌≤◌, max}
+use Prim.Native.Nat.{ℕ, zero, suc, ◌+◌, ◌-◌, ◌*◌, ◌<◌, ◌≤◌, max}
 use native.Mathlib.Omega.{arith}
 use mathlib.Core.Path.{◌≡◌, refl, ◌∙◌, ap, sym}
 use mathlib.Core.Bool.{Bool, true, false, cond, ◌&&◌, and-false as and_off}
 use mathlib.Core.List.{List, [], ◌∷◌, ◌++◌}
 use lib.Dec.{eqb}
-use lib.ListN.{length, get_or, take, drop, length-append, length-replicate}
+use lib.ListN.{length, take, drop, length-append, length-replicate}
 use borrow.Author.Tests.{eq-eqb, eqb-true, eqb-false}
-use Rattle.laws.specs.Lists.{one_if, count}
+use Rattle.laws.specs.Lists.{one_if}
 use Rattle.laws.specs.RecordsInLists.{joined}
 use Rattle.laws.proofs.Bools.{split, cases}
 use Rattle.laws.proofs.Lists.{count_append}
-use Rattle.octets.specs.Sizes.{kind_offset}
 use Rattle.rules.specs.Types.{Event, Command, Completion, Management, Condition, Ended, Task, Changes, Done, EndedAtEntry, BadEvent}
 use Rattle.rules.specs.Tasks.{places}
 use Rattle.rules.specs.Rulings.{State, answer_of, report_of}
@@ -33,7 +32,7 @@ use Rattle.operations.specs.AnswerNumbers.{said, writes_report}
 use Rattle.operations.specs.Operations.{Outcome, outcome, refused}
 use Rattle.operations.proofs.Answered.{number_of}
 use Rattle.numbers.specs.Boundary.{answered}
-use Rattle.demands.specs.Calls.{Call, read_in, command_task, expected_on}
+use Rattle.demands.specs.Calls.{read_in, command_task, expected_on}
 use Rattle.demands.specs.Seen.{kind_of}
 use Rattle.demands.proofs.Runs.{outcome_is}
 use Rattle.demands.proofs.Reading.{Reads, event_reads}

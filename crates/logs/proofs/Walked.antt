@@ -17,7 +17,7 @@ use Rattle.records.specs.Tables.{report_size, count_in}
 use Rattle.operations.specs.Operations.{outcome}
 use Rattle.numbers.specs.Boundary.{answered, AppliesAs}
 use Rattle.numbers.specs.declared.Answered.{Answered}
-use Rattle.demands.specs.Seen.{ended_among, ended_in}
+use Rattle.demands.specs.Seen.{ended_among}
 use Rattle.demands.proofs.Refused.{demand1}
 use mathlib.Core.Logic.{inl, inr}
 use Rattle.tallies.specs.Counters.{count_event}

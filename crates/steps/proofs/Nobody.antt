@@ -7,7 +7,6 @@ use native.Mathlib.Omega.{arith}
 use lib.ListN.{take, drop}
 use lib.Seq.{take-add}
 use Rattle.laws.specs.RecordsInLists.{kept_records}
-use Rattle.rules.specs.Rulings.{kept}
 use Rattle.rules.proofs.Fates.{all_stay, none_ends}
 use Rattle.records.specs.Records.{task_size}
 use Rattle.records.specs.Tables.{tasks_at, tasks_from}

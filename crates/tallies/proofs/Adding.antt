@@ -1,16 +1,15 @@
 -- RULES 24.10: the counters of two logs, added, show both together.
-use Prim.Native.Nat.{ℕ, zero, suc, ◌+◌, ◌<◌, max}
+use Prim.Native.Nat.{ℕ, zero, suc, ◌+◌, ◌<◌}
 use native.Mathlib.Omega.{arith}
 use mathlib.Core.Path.{◌≡◌, refl, ◌∙◌, ap, sym}
 use mathlib.Core.Logic.{◌≢◌}
 use mathlib.Core.List.{List, [], ◌∷◌, ◌++◌, map, map-append}
-use lib.Dec.{eqb}
 use lib.ListN.{length, get_or, replicate, length-replicate}
 use borrow.Author.Tests.{ne_eqb}
 use Rattle.tallies.specs.Tally.{statuses, Tally, tally_of, capped, no_tally, plus, onward, together}
 use Rattle.tallies.specs.Counters.{entry_at, accepted_at, largest_at, left_at, counters, both_at, add_counters}
 use Rattle.tallies.proofs.Numbered.{zero_at, length_each, length_sums, get_d_sums, capped_both, capped_larger}
-use Rattle.tallies.proofs.Telling.{Tells, Shows, TellsOf, shows_tells, tells_shows}
+use Rattle.tallies.proofs.Telling.{Shows, shows_tells, tells_shows}
 
 length_added : (k : ℕ) (a b : List ℕ) → length (add_counters k a b) ≡ length a
 unfolding add_counters

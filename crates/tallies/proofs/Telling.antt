@@ -1,11 +1,11 @@
 -- What the counters tell, one by one, and what an event adds to it.
-use Prim.Native.Nat.{ℕ, zero, suc, ◌+◌, ◌-◌, ◌^◌, ◌<◌, ◌≤◌, max}
+use Prim.Native.Nat.{ℕ, ◌+◌, ◌^◌, ◌<◌, ◌≤◌, max}
 use native.Mathlib.Omega.{arith}
 use mathlib.Core.Path.{◌≡◌, refl, ◌∙◌, ap, sym}
 use mathlib.Core.Logic.{◌≢◌}
-use mathlib.Core.Bool.{Bool, true, false, cond, ◌&&◌, not}
+use mathlib.Core.Bool.{Bool, true, false, ◌&&◌}
 use mathlib.Core.List.{List, [], ◌∷◌, ◌++◌, map}
-use lib.Dec.{eqb, ltb}
+use lib.Dec.{eqb}
 use lib.ListN.{length, get_or, take, drop, set, length-set, length-take, length-drop, length-map}
 use lib.Seq.{get_or-set_same, get_or-set_other, get_or-take, get_or-drop, ext_get_or}
 use borrow.Author.Tests.{eqb-true, eqb-false, ltb-true}
@@ -13,10 +13,9 @@ use Rattle.laws.specs.Lists.{one_if, count}
 use Rattle.laws.specs.RecordsInLists.{joined}
 use Rattle.laws.proofs.Bools.{split, not_both}
 use Rattle.laws.proofs.Lists.{count_both}
-use Rattle.octets.specs.Sizes.{status_offset}
 use Rattle.rules.specs.Types.{Ended}
 use Rattle.rules.proofs.EndStatuses.{byte_end}
-use Rattle.records.specs.Records.{ended_size, ended_bytes}
+use Rattle.records.specs.Records.{ended_bytes}
 use Rattle.numbers.specs.declared.Answered.{Answered}
 use Rattle.tallies.specs.Tally.{statuses, Tally, has_status, capped, capped_tally}
 use Rattle.tallies.specs.Counters.{entry_at, accepted_at, largest_at, left_at, counters, tally_in, once_more, count_ends, count_entry, count_accepted, count_left, count_largest, count_event}

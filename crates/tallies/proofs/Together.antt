@@ -3,7 +3,7 @@ use Prim.Native.Nat.{ℕ, ◌+◌, max}
 use native.Mathlib.Omega.{arith}
 use mathlib.Core.Path.{◌≡◌, refl, ◌∙◌, sym}
 use mathlib.Core.List.{List, [], ◌∷◌, map}
-use lib.ListN.{length, get_or, replicate}
+use lib.ListN.{get_or}
 use Rattle.tallies.specs.Tally.{statuses, Tally, tally_of, no_tally, plus, onward, together, sum}
 use Rattle.tallies.proofs.Numbered.{get_d_sums, zero_at}
 use Rattle.tallies.proofs.Adding.{Whole, log_whole, plus_whole, none_whole}

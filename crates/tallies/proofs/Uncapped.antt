@@ -1,14 +1,14 @@
 -- RULES 24.11: no counter is capped below 2^64 records.
-use Prim.Native.Nat.{ℕ, zero, suc, ◌+◌, ◌^◌, ◌<◌, ◌≤◌, max}
+use Prim.Native.Nat.{ℕ, zero, suc, ◌+◌, ◌^◌, ◌<◌, ◌≤◌}
 use native.Mathlib.Omega.{arith}
-use mathlib.Core.Path.{◌≡◌, refl, ◌∙◌, ap, sym}
+use mathlib.Core.Path.{◌≡◌, ◌∙◌, ap, sym}
 use mathlib.Core.Bool.{Bool, true, false}
-use mathlib.Core.List.{List, [], ◌∷◌, ◌++◌, map}
-use lib.ListN.{length, get_or, take, drop, replicate, length-append, length-map, length-replicate, get_or-eq_default, get_or-replicate}
+use mathlib.Core.List.{List, [], ◌∷◌, map}
+use lib.ListN.{length, get_or, take, drop, length-append, length-map, length-replicate, get_or-eq_default}
 use lib.Seq.{ext_get_or}
 use lib.Dec.{ltb}
 use borrow.Author.Tests.{ltb-true, ltb-false}
-use Rattle.laws.specs.Lists.{one_if, count}
+use Rattle.laws.specs.Lists.{one_if}
 use Rattle.laws.proofs.Bools.{split}
 use Rattle.laws.proofs.Lists.{count_both}
 use Rattle.rules.specs.Types.{Event, Policy, Ruling, Keeps, Changes, Joins, NoTask, NewTask}
@@ -25,7 +25,7 @@ use Rattle.history.proofs.Advanced.{advance_roll}
 use Rattle.history.proofs.Reached.{tested_advance}
 use Rattle.history.proofs.Balance.{recorded}
 use Rattle.demands.specs.Calls.{read_in}
-use Rattle.tallies.specs.Tally.{events_from, events_of, statuses, Tally, by_status, has_status, ends_with, is_entry_with, entries_with, largest_over, tally_over, tally_of, no_tally, plus, onward, together, sum, capped, capped_tally}
+use Rattle.tallies.specs.Tally.{events_from, events_of, statuses, Tally, by_status, has_status, is_entry_with, entries_with, largest_over, tally_over, tally_of, no_tally, plus, onward, together, sum, capped, capped_tally}
 use Rattle.tallies.proofs.Numbered.{zero_at, length_each, get_d_each, length_sums, get_d_sums, capped_small, get_d_capped}
 
 one_most : (b : Bool) → one_if b ≤ 1

@@ -18,16 +18,16 @@ returns-then-wants c =
 pub loop-i-preserved : goal.loop-i-preserved
 unfolding tasks_from
 loop-i-preserved c = (
-    omega arith,
-    rw (
-      tasks_next c.args.n c.loop-i.i c.args.t.now c.loop-i-test.true,
-      ← c.get_tagged.ensures,
-      ← c.task_from-k.ensures,
-      ← c.wants.ensures,
-      c.if-wants.false,
-    )
-        at c.loop-i.invariant.1,
+  omega arith,
+  rw (
+    tasks_next c.args.n c.loop-i.i c.args.t.now c.loop-i-test.true,
+    ← c.get_tagged.ensures,
+    ← c.task_from-k.ensures,
+    ← c.wants.ensures,
+    c.if-wants.false,
   )
+      at c.loop-i.invariant.1,
+)
 
 pub returns : goal.returns
 unfolding tasks_from

@@ -9,7 +9,7 @@ abbrev pub invariant-loop-i : goal.invariant-loop-i
 invariant-loop-i l =
     (l.i ≤ l.n)
     × (found_in (first (wanted l.w) (tasks_from (l.n - l.i) (drop (tasks_at + task_size * l.i) l.t)))
-      ≡ found_in (first (wanted l.w) (tasks_from l.n (drop tasks_at l.t))))
+    ≡ found_in (first (wanted l.w) (tasks_from l.n (drop tasks_at l.t))))
 
 abbrev pub decreases-loop-i : goal.decreases-loop-i
 decreases-loop-i l = l.n - l.i

@@ -9,7 +9,7 @@ abbrev pub invariant-loop-j : goal.invariant-loop-j
 invariant-loop-j l =
     (l.j ≤ l.n)
     × (l.any || any (of_nexus l.i) (losers l.w (l.n - l.j) (drop (tasks_at + task_size * l.j) l.t))
-      ≡ any (of_nexus l.i) (losers l.w l.n (drop tasks_at l.t)))
+    ≡ any (of_nexus l.i) (losers l.w l.n (drop tasks_at l.t)))
 
 abbrev pub decreases-loop-j : goal.decreases-loop-j
 decreases-loop-j l = l.n - l.j

@@ -1,4 +1,4 @@
-use Rattle.std.proofs.Common.{sym, ◌∙◌, arith}
+use Rattle.std.proofs.Common.{sym, ◌∙◌}
 use Rattle.steps.proofs.Nobody.{nobody_listed}
 use Rattle.steps.proofs.ListedEnds.{listing_none, listing_more, listing_all}
 use Rattle.report.proofs.list_ends.Goals as goal

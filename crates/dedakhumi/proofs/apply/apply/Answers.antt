@@ -39,10 +39,10 @@ returns-then-nexus_of-ge-NEXUS_BOUND c =
 
 pub on_event-requires : goal.on_event-requires
 on_event-requires c = (
-    sym c.table_fits.ensures ∙ c.if-not-table_fits.false,
-    c.if-report-ne-REPORT_SIZE.false,
-    omega (arith, c.nexus_of.ensures, c.if-nexus_of-ge-NEXUS_BOUND.false),
-  )
+  sym c.table_fits.ensures ∙ c.if-not-table_fits.false,
+  c.if-report-ne-REPORT_SIZE.false,
+  omega (arith, c.nexus_of.ensures, c.if-nexus_of-ge-NEXUS_BOUND.false),
+)
 
 pub returns : goal.returns
 returns c =

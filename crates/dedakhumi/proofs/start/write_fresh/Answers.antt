@@ -1,4 +1,3 @@
-use Rattle.std.proofs.Common.{refl}
 use Rattle.records.specs.Numbers.{policy_from}
 use Rattle.dedakhumi.proofs.FreshTable.{fresh_bytes}
 use Rattle.dedakhumi.proofs.start.write_fresh.Goals as goal

@@ -15,15 +15,15 @@ returns-then-not-nexus_fits c =
 
 pub loop-n-preserved : goal.loop-n-preserved
 loop-n-preserved c = (
-    omega arith,
-    (rw (
-      nexuses_next c.args.t.now c.loop-n.n c.loop-n-test.true,
-      ← c.load_untagged.ensures,
-      ← c.nexus_fits.ensures,
-      c.if-not-nexus_fits.false,
-    )
-        at c.loop-n.invariant.1),
+  omega arith,
+  (rw (
+    nexuses_next c.args.t.now c.loop-n.n c.loop-n-test.true,
+    ← c.load_untagged.ensures,
+    ← c.nexus_fits.ensures,
+    c.if-not-nexus_fits.false,
   )
+      at c.loop-n.invariant.1),
+)
 
 pub returns : goal.returns
 returns c =

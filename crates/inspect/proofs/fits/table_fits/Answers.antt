@@ -16,11 +16,11 @@ returns-then-not-header_fits c =
 
 pub records_fit-requires : goal.records_fit-requires
 records_fit-requires c = (
-    c.if-t-ne-TABLE_SIZE.false,
-    rw (c.header_in-h.ensures, ← c.load_untagged-r.ensures)
-        (count_fits c.args.t.now c.load_untagged-r.result c.load_untagged-r.ensures c.if-t-ne-TABLE_SIZE.false
-        (sym c.header_fits.ensures ∙ c.if-not-header_fits.false)),
-  )
+  c.if-t-ne-TABLE_SIZE.false,
+  rw (c.header_in-h.ensures, ← c.load_untagged-r.ensures)
+      (count_fits c.args.t.now c.load_untagged-r.result c.load_untagged-r.ensures c.if-t-ne-TABLE_SIZE.false
+      (sym c.header_fits.ensures ∙ c.if-not-header_fits.false)),
+)
 
 pub returns : goal.returns
 returns c =

@@ -7,16 +7,16 @@ use Rattle.inspect.proofs.fits.unused_fit.Goals as goal
 
 pub loop-i-preserved : goal.loop-i-preserved
 loop-i-preserved c = (
-    omega arith,
-    (rw (
-      unused_next c.args.t.now c.loop-i.i (omega arith),
-      ← c.load_tagged.ensures,
-      ← c.unlike_unused-unlike.ensures,
-      ← and_assoc,
-      ← no_bit_of_two c.loop-i.unlike c.unlike_unused-unlike.result,
-    )
-        at c.loop-i.invariant.1),
+  omega arith,
+  (rw (
+    unused_next c.args.t.now c.loop-i.i (omega arith),
+    ← c.load_tagged.ensures,
+    ← c.unlike_unused-unlike.ensures,
+    ← and_assoc,
+    ← no_bit_of_two c.loop-i.unlike c.unlike_unused-unlike.result,
   )
+      at c.loop-i.invariant.1),
+)
 
 pub returns : goal.returns
 returns c =

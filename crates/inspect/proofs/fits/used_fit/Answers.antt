@@ -36,19 +36,19 @@ returns-then-not-task_fits c =
 pub loop-i-preserved : goal.loop-i-preserved
 unfolding used_fit
 loop-i-preserved c = (
-    omega arith,
-    rw (c.behind-o.ensures, c.task_from-k.ensures)
-        (rw (
-          used_next c.args.t.now c.args.n c.loop-i.i c.loop-i-test.true c.args.aca c.loop-i.o,
-          ← c.load_tagged-r.ensures,
-          ← c.task_fits.ensures,
-          c.if-not-task_fits.false,
-          ← c.task_from-k.ensures,
-          ← c.fits.ensures,
-          c.if-not-fits.false,
-        )
-        at c.loop-i.invariant.1),
-  )
+  omega arith,
+  rw (c.behind-o.ensures, c.task_from-k.ensures)
+      (rw (
+        used_next c.args.t.now c.args.n c.loop-i.i c.loop-i-test.true c.args.aca c.loop-i.o,
+        ← c.load_tagged-r.ensures,
+        ← c.task_fits.ensures,
+        c.if-not-task_fits.false,
+        ← c.task_from-k.ensures,
+        ← c.fits.ensures,
+        c.if-not-fits.false,
+      )
+      at c.loop-i.invariant.1),
+)
 
 pub returns : goal.returns
 unfolding used_fit

@@ -1,5 +1,4 @@
-use Rattle.std.proofs.Common.{◌*◌, ◌+◌, refl, sym, ◌∙◌, arith}
-use Rattle.records.specs.Records.{ended_size}
+use Rattle.std.proofs.Common.{refl, sym, ◌∙◌, arith}
 use Rattle.tallies.proofs.Counting.{count_ends_step, count_ends_begun, count_ends_done}
 use Rattle.tallies.proofs.count.count_ends.Goals as goal
 
