@@ -13,11 +13,3 @@ log_added a b a' la lb x y e =
 
 pub none_added : OfSomeLogs (replicate counters 0)
 none_added = ([], shows_none.shown)
-
--- between two arguments
-pub record Between (all₀ name₀ stretch₀ out₀ all name stretch out : List ℕ) : Type 0 where
-  pub all_long : length all ≡ length all₀
-  pub name_long : length name ≡ length name₀
-  pub stretch_long : length stretch ≡ length stretch₀
-  pub out_long : length out ≡ length out₀
-  pub logs : OfSomeLogs all

@@ -8,7 +8,8 @@ ghost use Rattle.logs.specs.SoFar.{OfSomeLogs};
 
 use blocks::{FIGURES_ROOM, put_all, put_log, put_unreadable};
 use files::tally_file;
-use libc::{STDERR_FILENO, STDOUT_FILENO};
+use host::{arg, arg_count, fail};
+use std::rt::{Env, Files};
 use tallies::counters::COUNTERS;
 use tallies::sum::add_log;
 
@@ -31,31 +32,39 @@ fn out_buffer() -> [u8; OUT_SIZE]
 }
 
 // Says whether all of it was written.
-fn write_lines(lines: &[u8]) -> bool {
-    let is_written = io::write_all(STDOUT_FILENO, lines);
-    if !is_written {
-        os::fail(b"totals: standard output");
+fn write_lines<R: Print + Eprint>(rt: &R, lines: &[u8]) -> bool {
+    match rt.write_all(lines) {
+        Ok(()) => true,
+        Err(e) => {
+            fail(rt, "totals: standard output", e);
+            false
+        }
     }
-    is_written
 }
 
-fn write_log(name: &[u8], counts: &[u64], out: &mut [u8]) -> bool
+fn write_log<R: Print + Eprint>(rt: &R, name: &[u8], counts: &[u64], out: &mut [u8]) -> bool
     requires counts_len { length counts.now ≡ counters }
     requires name_in_bounds { length name.now + 5 + 16384 ≤ length out.old }
 {
     let end = put_log(out, name, counts);
-    write_lines(&out[..end])
+    write_lines(rt, &out[..end])
 }
 
-fn write_unreadable(name: &[u8], out: &mut [u8]) -> bool
+fn write_unreadable<R: Print + Eprint>(rt: &R, name: &[u8], out: &mut [u8]) -> bool
     requires { length name.now + 12 ≤ length out.old }
 {
     let end = put_unreadable(out, name);
-    write_lines(&out[..end])
+    write_lines(rt, &out[..end])
 }
 
 // Only a log that was read to its end is added.
-fn total(name: &[u8], all: &mut [u64], stretch: &mut [u8], out: &mut [u8]) -> bool
+fn total<R: Files + Print + Eprint>(
+    rt: &R,
+    name: &[u8],
+    all: &mut [u64],
+    stretch: &mut [u8],
+    out: &mut [u8],
+) -> bool
     requires all_len { length all.old ≡ counters }
     requires of_some_logs { OfSomeLogs all.old }
     requires name_in_bounds { length name.now + 5 + 16384 ≤ length out.old }
@@ -63,14 +72,15 @@ fn total(name: &[u8], all: &mut [u64], stretch: &mut [u8], out: &mut [u8]) -> bo
     ensures { OfSomeLogs all.new }
 {
     let mut counts = [0u64; COUNTERS];
-    if !tally_file(name, &mut counts, stretch) {
-        return write_unreadable(name, out);
+    if !tally_file(rt, name, &mut counts, stretch) {
+        return write_unreadable(rt, name, out);
     }
     add_log(all, &counts);
-    write_log(name, &counts, out)
+    write_log(rt, name, &counts, out)
 }
 
-fn total_argument(
+fn total_argument<R: Env + Files + Print + Eprint>(
+    rt: &R,
     i: usize,
     all: &mut [u64],
     name: &mut [u8],
@@ -83,45 +93,48 @@ fn total_argument(
     requires event_size_in_bounds { event_size ≤ length stretch.old }
     ensures { OfSomeLogs all.new }
 {
-    let n = os::arg(i, name);
-    total(&name[..n], all, stretch, out)
+    let n = arg(rt, i, name);
+    total(rt, &name[..n], all, stretch, out)
 }
 
 // Says whether all the lines were written; after a write that fails it stops.
-fn total_arguments(all: &mut [u64], name: &mut [u8], stretch: &mut [u8], out: &mut [u8]) -> bool
+fn total_arguments<R: Env + Files + Print + Eprint>(
+    rt: &R,
+    all: &mut [u64],
+    name: &mut [u8],
+    stretch: &mut [u8],
+    out: &mut [u8],
+) -> bool
     requires all_len { length all.old ≡ counters }
     requires of_some_logs { OfSomeLogs all.old }
     requires name_in_bounds { length name.old + 5 + 16384 ≤ length out.old }
     requires event_size_in_bounds { event_size ≤ length stretch.old }
     ensures { OfSomeLogs all.new }
 {
-    for i in 1..os::arg_count() {
-        if !total_argument(i, all, name, stretch, out) {
+    for i in 1..arg_count(rt) {
+        if !total_argument(rt, i, all, name, stretch, out) {
             return false;
         }
     }
     true
 }
 
-fn total_logs() {
+fn total_logs<R: Env + Files + Print + Eprint>(rt: &R) {
     let mut all = [0u64; COUNTERS];
     let mut name = name_buffer();
     let mut stretch = io::large_buffer();
     let mut out = out_buffer();
-    if total_arguments(&mut all, &mut name, &mut stretch, &mut out) {
+    if total_arguments(rt, &mut all, &mut name, &mut stretch, &mut out) {
         let end = put_all(&mut out, &all);
-        write_lines(&out[..end]);
+        write_lines(rt, &out[..end]);
     }
 }
 
 // The count has the program's own name in it.
-fn main() {
-    if os::arg_count() < 2 {
-        io::write_all(
-            STDERR_FILENO,
-            b"totals: name the logs to add up: totals LOG...\n",
-        );
+fn main(rt: HostRuntime) {
+    if arg_count(&rt) < 2 {
+        let _ = eprintln!(rt; "totals: name the logs to add up: totals LOG...");
     } else {
-        total_logs();
+        total_logs(&rt);
     }
 }
