@@ -4,8 +4,8 @@ What it does not know it refuses, so that no line of a case is passed over."""
 import operator
 import re
 
-TOKEN = re.compile(r"\s+|(0x[0-9A-Fa-f_]+|[0-9]+|[A-Za-z][A-Za-z0-9]*|∷|\+\+|\[\]|[-()+*/%=;{}])")
-CITED = re.compile(r"use Rattle·cases·specs\.specs\.(\w+)\.\{(.*)\}")
+TOKEN = re.compile(r"\s+|(0x[0-9A-Fa-f_]+|[0-9]+|[A-Za-z][A-Za-z0-9_]*|∷|\+\+|\[\]|[-()+*/%=;{}])")
+CITED = re.compile(r"use Rattle\.cases\.specs\.(\w+)\.\{(.*)\}")
 LEVELS = [("∷", "++"), ("+", "-"), ("*", "/", "%")]
 OPERATORS = {
     "∷": lambda first, rest: [first] + rest,

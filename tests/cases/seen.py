@@ -17,8 +17,8 @@ class Layout:
     @classmethod
     def made_by(cls, makers):
         """`makers` gives what Makers.antt defines under a name."""
-        widths = [makers(f"{kind}Width") for kind in ("header", "nexus", "task", "ended")]
-        return cls(*widths, makers("nexusPlace")(0), makers("taskPlace")(0))
+        widths = [makers(f"{kind}_width") for kind in ("header", "nexus", "task", "ended")]
+        return cls(*widths, makers("nexus_place")(0), makers("task_place")(0))
 
     def width_in_table(self, at):
         if at < self.nexuses_at:
