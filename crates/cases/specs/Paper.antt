@@ -17,8 +17,8 @@ case_a =
     ∷ [])
 
 -- RULES 26.14: with NACA 1 the ACA is nexus 2's, and the command is no task
-abbrev pub case_aTwin : Case
-case_aTwin =
+abbrev pub case_a_twin : Case
+case_a_twin =
     from (junk table_length)
     (start 0x00 0 (now (table (header 0x00 0 0 0) (bits 1 1 1 1 1 1 1 1) []))
     ∷ does (command 2 simple 1 7) (answer_line 7 0x02 0x06 0x29 0x00 0) (table (header 0x00 0 3 0) (bits 1 1 0 1 1 1 1 1) []) (listing [])
@@ -143,4 +143,4 @@ case_i =
     ∷ [])
 
 abbrev pub paper : List Case
-paper = case_a ∷ case_aTwin ∷ case_b ∷ case_c ∷ case_d ∷ case_e ∷ case_f ∷ case_g ∷ case_h ∷ case_i ∷ []
+paper = case_a ∷ case_a_twin ∷ case_b ∷ case_c ∷ case_d ∷ case_e ∷ case_f ∷ case_g ∷ case_h ∷ case_i ∷ []

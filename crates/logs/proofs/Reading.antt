@@ -1,3 +1,5 @@
+-- Of the reader's functions, as they were walked by hand before the check walked them; nothing cites it any more.
+--
 -- The three slices that `play` and `play_stretch` borrow: the table, the report and the counters, at the last three of four lifetimes. Each walk passes them on for
 -- good to a callee that takes them last too, so what the three own together, and what is said of their last lists, is one formula for both.
 --     Lent, Lists          the three borrows; a list for each

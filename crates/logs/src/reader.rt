@@ -1,5 +1,5 @@
-// RULES 25.2: the log reader: it walks one lent stretch of log and remembers where it stands. The borrow checker covers no function over such a struct, so each
-// is thin and proved by hand; the work is done by `play_from`, on slice and offset.
+// RULES 25.2: the log reader: it walks one lent stretch of log and remembers where it stands. Each function is thin; the work is done by `play_from`, on slice and
+// offset.
 ghost use Rattle.std.specs.Prelude.{◌≡◌};
 ghost use Rattle.logs.specs.Walking.{Ready, StoodAt};
 
