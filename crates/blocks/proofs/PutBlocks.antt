@@ -1,48 +1,23 @@
 -- Parts of a block put one behind the other.
 use Prim.Native.Nat.{ℕ, suc, ◌+◌, ◌*◌, ◌<◌, ◌≤◌}
-use native.Mathlib.Nat.{add-zero, add-suc, suc-add, suc-mul, mul-le-mul_right}
+use native.Mathlib.Nat.{add-zero, add-suc, suc-add, suc-mul}
 use native.Mathlib.Numerals.{add-one}
 use native.Mathlib.Omega.{arith}
 use mathlib.Core.Path.{◌≡◌, refl, sym, ap}
 use mathlib.Core.List.{List, [], ◌∷◌, ◌++◌, append_assoc, append-nil}
 use borrow.Author.Tests.{ne_eqb}
-use lib.ListN.{length, get_or, take, set, length-take}
-use lib.Seq.{take-suc, take_all, length-take-le}
-use Rattle.laws.proofs.RecordsInLists.{record_long}
+use lib.ListN.{length, get_or, take, length-take}
+use lib.Seq.{take-suc, length-take-le}
 use Rattle.io.specs.Counts.{IsPrefixLen}
-use Rattle.io.proofs.Counting.{prefix_len_of_le as counts}
-use Rattle.lines.specs.Lines.{hex, Written}
-use Rattle.lines.proofs.PutBytes.{put_byte, put_both}
-use Rattle.tallies.specs.Tally.{statuses, Tally}
-use Rattle.tallies.specs.Counters.{entry_at, counters, tally_in}
-use Rattle.blocks.specs.Block.{numeral, figure_line, status_lines, accepted_word, ends_word, entry_word, largest_word, left_word, figures, name_line}
+use Rattle.io.proofs.Counting.{prefix_len_of_le}
+use Rattle.lines.specs.declared.Writer.{Writer}
+use Rattle.lines.specs.Lines.{hex, Puts}
+use Rattle.lines.proofs.PutBytes.{put_both}
+use Rattle.tallies.specs.Tally.{Tally}
+use Rattle.blocks.specs.Block.{figure_line, status_lines, accepted_word, ends_word, entry_word, largest_word, left_word, figures}
 
-pub put_none : (b : List ℕ) (at : ℕ) → Written b at b at []
-put_none b at = record { long = refl; ends = omega arith; text = sym (append-nil (take at b)) }
-
--- bytes, one by one
-pub put_begun : (b : List ℕ) (at : ℕ) (bytes : List ℕ) → Written b at b (at + 0) (take 0 bytes)
-put_begun b at bytes = rw add-zero (put_none b at)
-
-pub put_step : {b out : List ℕ} {at : ℕ} (i : ℕ) (bytes : List ℕ) → i < length bytes → at + i < length out → Written b at out (at + i) (take i bytes)
-    → Written b at (set out (at + i) (get_or bytes i 0)) (at + (i + 1)) (take (i + 1) bytes)
-put_step {out = out} {at = at} i bytes inside room w =
-    let e : at + suc i ≡ at + i + 1 = omega arith in
-    rw (add-one, e, take-suc bytes i 0 inside) (put_both w (put_byte out (at + i) (get_or bytes i 0) room))
-
-pub put_done : {b out : List ℕ} {at : ℕ} (i : ℕ) (bytes : List ℕ) → i ≡ length bytes → Written b at out (at + i) (take i bytes)
-    → Written b at out (at + length bytes) bytes
-put_done i bytes e w = rw e at (rw (take_all i bytes (omega arith)) at w)
-
--- RULES 24.9: what stands behind the word, and the word before it
-pub put_figure : {a b c d : List ℕ} {i j k l : ℕ} (n : ℕ) → Written a i b j (32 ∷ []) → Written b j c k (numeral n) → Written c k d l (10 ∷ [])
-    → Written a i d l (figure_line [] n)
-unfolding figure_line
-put_figure n space digits feed = put_both (put_both space digits) feed
-
-pub put_word : {a b c : List ℕ} {i j k : ℕ} (w : List ℕ) (n : ℕ) → Written a i b j w → Written b j c k (figure_line [] n) → Written a i c k (figure_line w n)
-unfolding figure_line
-put_word w n word figure = put_both word figure
+pub put_none : (w : Writer) → Puts w w []
+put_none w = record { written = record { long = refl; ends = omega arith; text = sym (append-nil (take w.at w.buffer.now)) }; same = refl }
 
 -- RULES 24.9: one status, counted or not
 pub counted : (w : List ℕ) (s n : ℕ) → 0 < n → figure_line (w ++ hex s) n ≡ status_lines w s (n ∷ [])
@@ -60,40 +35,29 @@ statuses_behind w s [] ms = rw add-zero
 statuses_behind w s (n ∷ ns) ms = rw (statuses_behind w (suc s) ns ms, append_assoc, add-suc, suc-add)
 
 -- a loop over counts
-pub statuses_begun : (b : List ℕ) (at : ℕ) (w counts : List ℕ) → Written b at b at (status_lines w 0 (take 0 counts))
+pub statuses_begun : (w : Writer) (word counts : List ℕ) → Puts w w (status_lines word 0 (take 0 counts))
 unfolding status_lines
-statuses_begun b at w counts = put_none b at
+statuses_begun w word counts = put_none w
 
-pub statuses_step : {b out after : List ℕ} {at end next : ℕ} (w counts : List ℕ) (s : ℕ) → s < length counts
-    → Written b at out end (status_lines w 0 (take s counts)) → Written out end after next (status_lines w s (get_or counts s 0 ∷ []))
-    → Written b at after next (status_lines w 0 (take (s + 1) counts))
-statuses_step w counts s inside before one =
+pub statuses_step : {a b c : Writer} (word counts : List ℕ) (s : ℕ) → s < length counts → Puts a b (status_lines word 0 (take s counts))
+    → Puts b c (status_lines word s (get_or counts s 0 ∷ [])) → Puts a c (status_lines word 0 (take (s + 1) counts))
+statuses_step word counts s inside before one =
     let e : 0 + length (take s counts) ≡ s = omega (arith, length-take-le s counts (omega arith)) in
-    rw (add-one, take-suc counts s 0 inside, statuses_behind w 0 (take s counts) (get_or counts s 0 ∷ []), e) (put_both before one)
+    rw (add-one, take-suc counts s 0 inside, statuses_behind word 0 (take s counts) (get_or counts s 0 ∷ []), e) (put_both before one)
 
 -- the room of one line more
 pub room_more : (s m : ℕ) → (s + 1) * m ≡ s * m + m
 room_more s m = rw (add-one, suc-mul)
 
-pub room_within : (s n m : ℕ) → s < n → s * m + m ≤ n * m
-room_within s n m inside = rw (← suc-mul) (mul-le-mul_right m inside)
-
--- both kinds of ends are counted for each status
-pub by_status_lem : (c : List ℕ) → length c ≡ counters → (length (tally_in c).ends ≡ statuses) × (length (tally_in c).entry ≡ statuses)
-by_status_lem c whole = (record_long statuses c 0 (omega arith), record_long statuses c entry_at (omega arith))
-
 -- RULES 24.9: the lines of a block in their order
-pub put_figures : {o₀ o₁ o₂ o₃ o₄ o₅ : List ℕ} {e₀ e₁ e₂ e₃ e₄ e₅ : ℕ} (t : Tally) → Written o₀ e₀ o₁ e₁ (figure_line accepted_word t.accepted)
-    → Written o₁ e₁ o₂ e₂ (status_lines ends_word 0 t.ends) → Written o₂ e₂ o₃ e₃ (status_lines entry_word 0 t.entry)
-    → Written o₃ e₃ o₄ e₄ (figure_line largest_word t.largest) → Written o₄ e₄ o₅ e₅ (figure_line left_word t.left) → Written o₀ e₀ o₅ e₅ (figures t)
+pub put_figures : {w₀ w₁ w₂ w₃ w₄ w₅ : Writer} (t : Tally) → Puts w₀ w₁ (figure_line accepted_word t.accepted) → Puts w₁ w₂ (status_lines ends_word 0 t.ends)
+    → Puts w₂ w₃ (status_lines entry_word 0 t.entry) → Puts w₃ w₄ (figure_line largest_word t.largest) → Puts w₄ w₅ (figure_line left_word t.left)
+    → Puts w₀ w₅ (figures t)
 unfolding figures
 put_figures t accepted ends entry largest left = put_both accepted (put_both ends (put_both entry (put_both largest left)))
 
--- RULES 24.9 and 24.10: a heading
-pub put_heading : {a b c d e : List ℕ} {i j k l m : ℕ} (w name : List ℕ) → Written a i b j w → Written b j c k (32 ∷ []) → Written c k d l name
-    → Written d l e m (10 ∷ []) → Written a i e m (name_line w name)
-put_heading w name word space named feed = simp append_assoc at (put_both (put_both (put_both word space) named) feed)
-
--- what was put from the start on
-pub put_whole : {b a : List ℕ} {e : ℕ} {x : List ℕ} → Written b 0 a e x → (take e a ≡ x) × IsPrefixLen e a
-put_whole {b} {a} {e} {x} w = (w.text, counts e a (omega (arith, w.ends, length-take e a, ap length w.text)))
+-- what was put from the start on; b is the buffer as the writer left it
+pub put_whole : {w w' : Writer} {x b : List ℕ} → Puts w w' x → w.at ≡ 0 → b ≡ w'.buffer.now → (take w'.at b ≡ x) × IsPrefixLen w'.at b
+put_whole {w} {w'} p start same =
+    let text = rw start at p.written.text in
+    rw same (text, prefix_len_of_le w'.at w'.buffer.now (omega (arith, p.written.ends, start, length-take w'.at w'.buffer.now, ap length text)))

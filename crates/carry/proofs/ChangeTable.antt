@@ -1,4 +1,5 @@
 -- A change carried out step by step on the table of a state gives the table of the state that the rules say.
+use Rattle.std.specs.Prelude.{Option, Some, None}
 use Prim.Native.Nat.{ℕ, ◌+◌, ◌≤◌}
 use mathlib.Core.Bool.{true}
 use mathlib.Core.Path.{◌≡◌, refl, ap, sym, ◌∙◌}
@@ -16,12 +17,12 @@ use Rattle.rules.proofs.WellKept.{Tested, to_tested, length_noted}
 use Rattle.records.specs.Numbers.{aca_number}
 use Rattle.records.specs.Records.{header_bytes}
 use Rattle.records.specs.Tables.{Bytes, state_of, table_with, counts_of, table_bytes, report_bytes}
-use Rattle.records.proofs.Good.{table_tested, good_tested, table_good}
+use Rattle.records.proofs.Good.{good_tested, table_good}
 use Rattle.steps.specs.Steps.{restated_bytes, losers, kept_count, closed_bytes, ends_of}
 use Rattle.steps.proofs.StepTables.{with_tasks, with_pending, settled_table, blocked_table}
 use Rattle.steps.proofs.Closed.{kept_count_lem, losers_are, ends_are, closed_table, joined_table, header_table}
 use Rattle.steps.proofs.Noted.{noted_table}
-use Rattle.rules.specs.Types.{Task, Header, Ended, Allegiance, Clear, Faulted, Notice, Quiet, Reported, OthersLost, ReportedAndOthersLost, NexusLost, UnitWasReset, HardWasReset, PowerCameOn, Joins, NoTask, NewTask, Change, Done, Changes}
+use Rattle.rules.specs.Types.{Task, Header, Ended, Allegiance, Notice, Quiet, Reported, OthersLost, ReportedAndOthersLost, NexusLost, UnitWasReset, HardWasReset, PowerCameOn, Change, Done, Changes}
 use Rattle.carry.specs.Carrying.{noted_unless_quiet, joined_bytes, HeaderKept}
 use Rattle.carry.specs.Changes.{ChangeFits, ChangedAs}
 
@@ -37,16 +38,16 @@ module _ (cs : ℕ → ℕ) (s : State) (eight : length s.pending ≡ nexuses) w
   noted_step PowerCameOn ls = noted_table cs s PowerCameOn ls eight
 
   joined_step :
-      (j : Joins) → length (s.tasks ++ newcomers j) ≤ places
+      (j : Option Task) → length (s.tasks ++ newcomers j) ≤ places
       → joined_bytes j (length s.tasks) (table_with cs s) ≡ table_with cs (with_tasks s (s.tasks ++ newcomers j))
-  joined_step NoTask h = ap (λ (ts : List Task). table_with cs (with_tasks s ts)) (sym (append-nil s.tasks))
-  joined_step (NewTask t) h = joined_table cs s eight t (omega (arith, length-append s.tasks (t ∷ [])))
+  joined_step None h = ap (λ (ts : List Task). table_with cs (with_tasks s ts)) (sym (append-nil s.tasks))
+  joined_step (Some t) h = joined_table cs s eight t (omega (arith, length-append s.tasks (t ∷ [])))
 
   restated_step :
       (a b : Allegiance) → restated_bytes a b (length s.tasks) (table_with cs s) ≡ table_with cs (with_tasks s (restate a b s.tasks))
-  restated_step a Clear = settled_table cs s eight
-  restated_step Clear (Faulted f) = blocked_table cs s eight
-  restated_step (Faulted g) (Faulted f) = refl
+  restated_step a None = settled_table cs s eight
+  restated_step None (Some f) = blocked_table cs s eight
+  restated_step (Some g) (Some f) = refl
 
 module _ (cs : ℕ → ℕ) (s : State) (c : Change) (eight : length s.pending ≡ nexuses) (b t1 : List ℕ) (eb : b ≡ table_with cs s)
     (e1 : t1 ≡ noted_unless_quiet c.notice (losers c.sweep (length s.tasks) (drop tasks_at b)) b) where
@@ -137,15 +138,12 @@ header_stored t h k =
 
 -- What the steps ask and give, where a change fits -----------------------------------------------------------------------------------------
 
-module _ {t r : List ℕ} {n : ℕ} {before : Allegiance} {c : Change} (fits : ChangeFits t r n before c) where
+module _ {t : List ℕ} {n : ℕ} {before : Allegiance} {c : Change} (fits : ChangeFits t n before c) where
   whole : Tested (state_of t)
   whole = good_tested t fits.good
 
   after : Tested (ruled (state_of t) (Changes Done c))
   after = to_tested (ruled (state_of t) (Changes Done c)) fits.well
-
-  pub change_long : length t ≡ table_size
-  change_long = (table_tested t fits.good).long
 
   counted : n ≡ length (state_of t).tasks
   counted = fits.counted ∙ whole.counted

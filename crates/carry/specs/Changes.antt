@@ -1,7 +1,6 @@
 -- Believed by nobody: code's own way of walking, proved equal to what the rules say (docs/TRUST.md).
 -- What the function that carries a change out asks and promises, in states.
 use Rattle.std.specs.Prelude.{ℕ, ◌≤◌, ◌≡◌, true, List, length}
-use Rattle.octets.specs.Sizes.{report_size}
 use Rattle.rules.specs.Tasks.{places}
 use Rattle.values.specs.Headers.{lasting}
 use Rattle.rules.specs.Rulings.{ruled, report_of}
@@ -9,9 +8,8 @@ use Rattle.rules.specs.Well.{well_formed}
 use Rattle.records.specs.Tables.{state_of, table_bytes, report_bytes, good_table}
 use Rattle.rules.specs.Types.{Allegiance, Change, Done, Changes}
 
-pub record ChangeFits (t r : List ℕ) (n : ℕ) (before : Allegiance) (c : Change) : Type 0 where
+pub record ChangeFits (t : List ℕ) (n : ℕ) (before : Allegiance) (c : Change) : Type 0 where
   pub good : good_table t ≡ true
-  pub report : length r ≡ report_size
   pub counted : n ≡ (state_of t).header.count
   pub aca : before ≡ (state_of t).header.aca
   pub lasts : lasting c.header ≡ lasting (state_of t).header

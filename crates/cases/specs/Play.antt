@@ -14,8 +14,8 @@
 --   plays r t ms           := from the table t, with the report buffer r, every move sees what it lists
 --   right c                := the case is right
 --   all p xs               := every one of xs passes p
-use Rattle.std.specs.Prelude.{ℕ, Bool, true, false, ◌&&◌, List, [], ◌∷◌, eqb}
-use Rattle.values.specs.declared.Turn.{Turn, TheVariants.Nothing, TheVariants.Names}
+use Rattle.rules.specs.Types.{Named}
+use Rattle.std.specs.Prelude.{ℕ, Bool, true, false, ◌&&◌, List, [], ◌∷◌, eqb, Option, Some, None}
 use Rattle.operations.specs.Types.{Naming}
 use Rattle.operations.specs.AnswerNumbers.{Said, said}
 use Rattle.operations.specs.Operations.{Outcome, outcome, named, Started, started}
@@ -54,9 +54,9 @@ said_of o =
     let a : Said = said o.answer in
     a.number ∷ a.status ∷ a.sense.key ∷ a.sense.code ∷ a.sense.qualifier ∷ o.ended ∷ []
 
-abbrev turn_numbers : Turn → List ℕ
-turn_numbers Nothing = 0 ∷ 0 ∷ 0 ∷ []
-turn_numbers (Names t) = 1 ∷ t.nexus ∷ t.tag ∷ []
+abbrev turn_numbers : Option Named → List ℕ
+turn_numbers None = 0 ∷ 0 ∷ 0 ∷ []
+turn_numbers (Some t) = 1 ∷ t.nexus ∷ t.tag ∷ []
 
 abbrev named_of : Naming → List ℕ
 named_of n = (said n.answer).number ∷ turn_numbers n.turn

@@ -1,33 +1,25 @@
 -- What two searches find, and the turn rule.
+use Rattle.std.specs.Prelude.{Some, None, is_some}
 use Prim.Native.Nat.{ℕ}
 use mathlib.Core.Bool.{Bool, true, false, cond, ◌||◌, ◌&&◌, not}
-use mathlib.Core.Path.{◌≡◌, refl, ap, sym, ◌∙◌}
+use mathlib.Core.Path.{◌≡◌, refl, ap, sym}
 use mathlib.Core.List.{List, [], ◌∷◌}
-use mathlib.Core.Option.{Option, none, some}
 use lib.Dec.{ltb}
 use Rattle.laws.specs.Lists.{any, first}
 use Rattle.rules.specs.Tasks.{enabled_task, enabled_head, enabled_plain, whose_turn, turn_of}
 use Rattle.rules.specs.Well.{settled}
 use Rattle.rules.proofs.Settled.{oldest_enabled}
 use Rattle.rules.proofs.TurnRule.{oldest_plain, else_not_head}
-use Rattle.rules.specs.Types.{Task, Clear}
-use Rattle.decide.specs.Searches.{is_here, found_in, task_in, chosen, turn_found}
+use Rattle.rules.specs.Types.{Task}
+use Rattle.decide.specs.Searches.{chosen}
 
-pub here_any : (p : Task → Bool) (ts : List Task) → is_here (found_in (first p ts)) ≡ any p ts
+pub here_any : (p : Task → Bool) (ts : List Task) → is_some (first p ts) ≡ any p ts
 here_any p [] = refl
 here_any p (t ∷ ts) = go (p t) (here_any p ts)
   where
-    go : (b : Bool) → is_here (found_in (first p ts)) ≡ any p ts → is_here (found_in (cond b (some t) (first p ts))) ≡ b || any p ts
+    go : (b : Bool) → is_some (first p ts) ≡ any p ts → is_some (cond b (Some t) (first p ts)) ≡ b || any p ts
     go true e = refl
     go false e = e
-
-pub task_found : (o : Option Task) → task_in (found_in o) ≡ o
-task_found none = refl
-task_found (some t) = refl
-
-pub turn_found_lem : (o : Option Task) → turn_found (found_in o) ≡ turn_of o
-turn_found_lem none = refl
-turn_found_lem (some t) = refl
 
 -- where no HEAD OF QUEUE task is due, the oldest enabled task is the oldest enabled SIMPLE or ORDERED one
 else_found :
@@ -40,7 +32,7 @@ else_found run (u ∷ us) e b =
 -- the choice of two searches is the turn rule's
 pub chosen_named :
     (run : ℕ) (ts : List Task) → settled [] ts ≡ true
-    → turn_found (chosen (found_in (first enabled_head ts)) (found_in (first enabled_plain ts)) run) ≡ turn_of (whose_turn Clear run ts)
+    → turn_of (chosen (first enabled_head ts) (first enabled_plain ts) run) ≡ turn_of (whose_turn None run ts)
 unfolding whose_turn
 chosen_named run ts e =
     rw (here_any enabled_head ts, here_any enabled_plain ts)
@@ -48,7 +40,7 @@ chosen_named run ts e =
   where
     go :
         (b : Bool) → any enabled_head ts && (ltb run 4 || not (any enabled_plain ts)) ≡ b
-        → turn_found (cond b (found_in (first enabled_head ts)) (found_in (first enabled_plain ts)))
+        → turn_of (cond b (first enabled_head ts) (first enabled_plain ts))
         ≡ turn_of (cond b (first enabled_head ts) (first enabled_task ts))
-    go true q = turn_found_lem (first enabled_head ts)
-    go false q = turn_found_lem (first enabled_plain ts) ∙ ap turn_of (sym (else_found run ts e q))
+    go true q = refl
+    go false q = ap turn_of (sym (else_found run ts e q))

@@ -1,4 +1,5 @@
 -- What code computes task by task is what the rules say of the whole list.
+use Rattle.std.specs.Prelude.{Some, None}
 use Prim.Native.Nat.{ℕ}
 use mathlib.Core.Bool.{Bool, false, ◌&&◌, not}
 use mathlib.Core.Path.{◌≡◌, refl, ap, sym}
@@ -7,7 +8,7 @@ use lib.Dec.{eqb}
 use Rattle.laws.specs.Lists.{any, is_nil}
 use Rattle.rules.specs.Tasks.{holds_back, eligible, enabled_if, with_state, settle_from}
 use Rattle.rules.specs.Well.{settled_task, held_task, settled, held, states_fit}
-use Rattle.rules.specs.Types.{Attribute, Simple, HeadOfQueue, Ordered, Aca, Task, Allegiance, Clear, Faulted}
+use Rattle.rules.specs.Types.{Attribute, Simple, HeadOfQueue, Ordered, Aca, Task, Allegiance}
 use Rattle.decide.specs.Types.{Older}
 use Rattle.decide.specs.OlderTasks.{no_older, behind_by, eligible_by, settled_by, fit_by}
 
@@ -51,14 +52,14 @@ settled_bits older (t ∷ ts) =
 pub settled_walk : (ts : List Task) → settled_by no_older ts ≡ settle_from [] ts
 settled_walk ts = settled_bits [] ts
 
-fit_settled : (older : List Attribute) (ts : List Task) → fit_by Clear (older_of older) ts ≡ settled older ts
+fit_settled : (older : List Attribute) (ts : List Task) → fit_by None (older_of older) ts ≡ settled older ts
 fit_settled older [] = refl
 fit_settled older (t ∷ ts) =
     rw (eligible_bits older t.attribute)
     (ap (λ (b : Bool). settled_task (eligible older t.attribute) t.attribute t.state && b)
     (fit_settled (t.attribute ∷ older) ts))
 
-fit_held : (f : ℕ) (older : List Attribute) (ts : List Task) → fit_by (Faulted f) (older_of older) ts ≡ held f older ts
+fit_held : (f : ℕ) (older : List Attribute) (ts : List Task) → fit_by (Some f) (older_of older) ts ≡ held f older ts
 fit_held f older [] = refl
 fit_held f older (t ∷ ts) =
     rw (eligible_bits older t.attribute)
@@ -68,5 +69,5 @@ fit_held f older (t ∷ ts) =
 
 -- the states fit
 pub fit_walk : (aca : Allegiance) (ts : List Task) → fit_by aca no_older ts ≡ states_fit aca ts
-fit_walk Clear ts = fit_settled [] ts
-fit_walk (Faulted f) ts = fit_held f [] ts
+fit_walk None ts = fit_settled [] ts
+fit_walk (Some f) ts = fit_held f [] ts

@@ -7,11 +7,11 @@
 --   fits_by aca o t y    := the state of the task t fits; y: it is the youngest
 --   settled_by o ts      := every eligible task enabled, every other dormant
 --   fit_by aca o ts      := every state fits
-use Rattle.std.specs.Prelude.{Bool, true, false, ◌&&◌, not, List, [], ◌∷◌, eqb}
+use Rattle.std.specs.Prelude.{Bool, true, false, ◌&&◌, not, List, [], ◌∷◌, eqb, Some, None}
 use Rattle.laws.specs.Lists.{is_nil}
 use Rattle.rules.specs.Tasks.{with_state, enabled_if}
 use Rattle.rules.specs.Well.{settled_task, held_task}
-use Rattle.rules.specs.Types.{Attribute, Simple, HeadOfQueue, Ordered, Aca, Task, Allegiance, Clear, Faulted}
+use Rattle.rules.specs.Types.{Attribute, Simple, HeadOfQueue, Ordered, Aca, Task, Allegiance}
 use Rattle.decide.specs.Types.{Older}
 
 abbrev pub no_older : Older
@@ -30,8 +30,8 @@ eligible_by o Ordered = not o.any
 eligible_by o Aca = true
 
 abbrev pub fits_by : Allegiance → Older → Task → Bool → Bool
-fits_by Clear o t youngest = settled_task (eligible_by o t.attribute) t.attribute t.state
-fits_by (Faulted f) o t youngest =
+fits_by None o t youngest = settled_task (eligible_by o t.attribute) t.attribute t.state
+fits_by (Some f) o t youngest =
     held_task youngest (eligible_by o t.attribute) (eqb t.nexus f) t.attribute t.state
 
 abbrev pub settled_by : Older → List Task → List Task

@@ -1,10 +1,10 @@
-// One task's fate under a sweep.
-ghost use Rattle.std.specs.Prelude.{◌≡◌, cond};
+// RULES 4.3: one task's fate under a sweep: the status by which it ends, where it does not stay.
+ghost use Rattle.std.specs.Prelude.{◌≡◌};
 ghost use Rattle.rules.specs.Tasks.{of_nexus, same};
-ghost use Rattle.rules.specs.Rulings.{end_if, aborted_by, fate_by_qerr, or_else, fate_of};
+ghost use Rattle.rules.specs.Rulings.{aborted_by, fate_by_qerr, fate_of};
 
 use crate::states::is_aca;
-use values::{Fate, Policy, Qerr, Sweep, Tag, Task};
+use values::{CHECK_CONDITION, NO_STATUS, Policy, Qerr, Sweep, TASK_ABORTED, Tag, Task};
 
 pub fn of_nexus(n: u8, t: Task) -> bool
     ensures { result ≡ of_nexus n t }
@@ -18,56 +18,40 @@ pub fn same_task(n: u8, g: Tag, t: Task) -> bool
     (t.nexus == n) & (t.tag == g)
 }
 
-fn end_if(ends: bool, status: u8) -> Fate
-    ensures { result ≡ end_if ends status }
-{
-    if ends {
-        Fate::Ends(status)
-    } else {
-        Fate::Stays
-    }
-}
-
-fn status_if(told: bool, aborted: u8, silent: u8) -> u8
-    ensures { result ≡ cond told aborted silent }
-{
-    if told { aborted } else { silent }
-}
-
-fn aborted_by(p: Policy, n: u8, t: Task) -> Fate
+fn aborted_by(p: Policy, n: u8, t: Task) -> Option<u8>
     ensures { result ≡ aborted_by p n t }
 {
-    Fate::Ends(status_if(!of_nexus(n, t) & p.tas, 0x40, 0xFF))
+    Some(if !of_nexus(n, t) & p.tas {
+        TASK_ABORTED
+    } else {
+        NO_STATUS
+    })
 }
 
-fn fate_by_qerr(p: Policy, n: u8, t: Task) -> Fate
+fn fate_by_qerr(p: Policy, n: u8, t: Task) -> Option<u8>
     ensures { result ≡ fate_by_qerr p.qerr p n t }
 {
-    let qerr = p.qerr;
-    match qerr {
-        Qerr::EndNone => Fate::Stays,
+    match p.qerr {
+        Qerr::EndNone => None,
         Qerr::EndAll => aborted_by(p, n, t),
-        Qerr::EndNexus => end_if(of_nexus(n, t), 0xFF),
+        Qerr::EndNexus => of_nexus(n, t).then_some(NO_STATUS),
     }
 }
 
-fn fate_if(first: bool, status: u8, other: Fate) -> Fate
-    ensures { result ≡ or_else (end_if first status) other }
-{
-    if first { Fate::Ends(status) } else { other }
-}
-
-pub fn fate(w: Sweep, t: Task) -> Fate
+pub fn fate(w: Sweep, t: Task) -> Option<u8>
     ensures { result ≡ fate_of w t }
 {
-    let a = t.attribute;
     match w {
-        Sweep::Nobody => Fate::Stays,
-        Sweep::OneTask(n, g, status) => end_if(same_task(n, g, t), status),
-        Sweep::NexusTasks(n) => end_if(of_nexus(n, t), 0xFF),
-        Sweep::AcaTask => end_if(is_aca(a), 0xFF),
-        Sweep::AllTasks => Fate::Ends(0xFF),
+        Sweep::Nobody => None,
+        Sweep::OneTask(n, g, status) => same_task(n, g, t).then_some(status),
+        Sweep::NexusTasks(n) => of_nexus(n, t).then_some(NO_STATUS),
+        Sweep::AcaTask => is_aca(t.attribute).then_some(NO_STATUS),
+        Sweep::AllTasks => Some(NO_STATUS),
         Sweep::ClearedBy(n, p) => aborted_by(p, n, t),
-        Sweep::FailedTask(n, g, p) => fate_if(same_task(n, g, t), 0x02, fate_by_qerr(p, n, t)),
+        Sweep::FailedTask(n, g, p) => if same_task(n, g, t) {
+            Some(CHECK_CONDITION)
+        } else {
+            fate_by_qerr(p, n, t)
+        },
     }
 }

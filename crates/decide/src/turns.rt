@@ -1,79 +1,49 @@
 // The turn rule's choice, from what the two searches found.
-ghost use Rattle.std.specs.Prelude.{◌≡◌, cond};
-ghost use Rattle.rules.specs.Tasks.{is_named};
-ghost use Rattle.decide.specs.Searches.{wanted, turn_found, chosen, is_here};
+ghost use Rattle.std.specs.Prelude.{◌≡◌};
+ghost use Rattle.rules.specs.Tasks.{enabled_head, enabled_plain, aca_task, is_named, turn_of};
+ghost use Rattle.decide.specs.Searches.{chosen};
 
-use crate::fates::same_task;
 use crate::states::{is_aca, is_enabled, is_head, is_plain};
-use values::{Named, Tag, Task, Turn};
+use values::{Named, Tag, Task};
 
-// What a search looks for: the oldest enabled HEAD OF QUEUE task, the oldest enabled SIMPLE or ORDERED one, the ACA task, or the task of a nexus and tag.
-#[derive(Clone, Copy)]
-pub enum Want {
-    TheHead,
-    ThePlain,
-    TheAca,
-    TheTask(u8, Tag),
-}
-
-#[derive(Clone, Copy)]
-pub enum Found {
-    Nowhere,
-    Here(Task),
-}
-
-pub fn wants(w: Want, t: Task) -> bool
-    ensures { result ≡ wanted w t }
+// What searches look for, beside the task of a nexus and tag (`same_task`).
+pub fn enabled_head(t: Task) -> bool
+    ensures { result ≡ enabled_head t }
 {
-    let a = t.attribute;
-    let s = t.state;
-    match w {
-        Want::TheHead => is_head(a) & is_enabled(s),
-        Want::ThePlain => is_plain(a) & is_enabled(s),
-        Want::TheAca => is_aca(a),
-        Want::TheTask(n, g) => same_task(n, g, t),
-    }
+    is_head(t.attribute) & is_enabled(t.state)
 }
 
-pub fn is_here(f: Found) -> bool
-    ensures { result ≡ is_here f }
+pub fn enabled_plain(t: Task) -> bool
+    ensures { result ≡ enabled_plain t }
 {
-    match f {
-        Found::Nowhere => false,
-        Found::Here(_) => true,
-    }
+    is_plain(t.attribute) & is_enabled(t.state)
 }
 
-fn found_if(first: bool, f: Found, other: Found) -> Found
-    ensures { result ≡ cond first f other }
+pub fn aca_task(t: Task) -> bool
+    ensures { result ≡ aca_task t }
 {
-    if first { f } else { other }
+    is_aca(t.attribute)
 }
 
 // RULES 2.11 and 2.12, of what two searches found.
-pub fn choose(head: Found, plain: Found, run: u8) -> Found
+pub fn choose(head: Option<Task>, plain: Option<Task>, run: u8) -> Option<Task>
     ensures { result ≡ chosen head plain run }
 {
-    found_if(is_here(head) & ((run < 4) | !is_here(plain)), head, plain)
-}
-
-pub fn turn_of(f: Found) -> Turn
-    ensures { result ≡ turn_found f }
-{
-    match f {
-        Found::Nowhere => Turn::Nothing,
-        Found::Here(t) => Turn::Names(Named {
-            nexus: t.nexus,
-            tag: t.tag,
-        }),
+    if run < 4 {
+        head.or(plain)
+    } else {
+        plain.or(head)
     }
 }
 
-pub fn is_named(n: u8, g: Tag, turn: Turn) -> bool
+pub fn turn_of(found: Option<Task>) -> Option<Named>
+    ensures { result ≡ turn_of found }
+{
+    found.map(Named::from)
+}
+
+pub fn is_named(n: u8, g: Tag, turn: Option<Named>) -> bool
     ensures { result ≡ is_named n g turn }
 {
-    match turn {
-        Turn::Nothing => false,
-        Turn::Names(t) => (t.nexus == n) & (t.tag == g),
-    }
+    turn == Some(Named { nexus: n, tag: g })
 }

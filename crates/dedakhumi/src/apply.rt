@@ -1,6 +1,5 @@
 // Apply one event.
 ghost use Rattle.std.specs.Prelude.{◌≡◌, true, cond, ◌<◌, length, replicate};
-ghost use Rattle.octets.specs.Sizes.{report_size};
 ghost use Rattle.rules.specs.Tasks.{nexuses};
 ghost use Rattle.values.specs.Headers.{lasting};
 ghost use Rattle.rules.specs.Rulings.{ruled};
@@ -12,8 +11,8 @@ ghost use Rattle.operations.specs.Operations.{carried, outcome, AppliedAs};
 
 use carry::change::change;
 use inspect::fits::table_fits;
-use octets::sizes::REPORT_SIZE;
-use records::events::{EventRead, event_of};
+use octets::sizes::{REPORT_SIZE, Report};
+use records::events::event_of;
 use records::header::header_in;
 use report::zero_rest;
 use ruling::rule::{nexus_of, rule};
@@ -22,15 +21,13 @@ use values::{Answer, Applied, Event, Header, NEXUS_BOUND, Ruling};
 fn writes_report(a: Answer) -> bool
     ensures { result ≡ writes_report a }
 {
-    match a {
-        Answer::Done => true,
-        Answer::EndedAtEntry(_, _) => true,
-        Answer::Rejected => true,
-        _ => false,
-    }
+    matches!(
+        a,
+        Answer::Done | Answer::EndedAtEntry(_, _) | Answer::Rejected
+    )
 }
 
-fn zero_if(report: &mut [u8], write: bool)
+fn zero_if(report: &mut Report, write: bool)
     ensures { report.new ≡ cond write (replicate (length report.old) 0) report.old }
 {
     if write {
@@ -38,11 +35,10 @@ fn zero_if(report: &mut [u8], write: bool)
     }
 }
 
-fn carry_out(t: &mut [u8], report: &mut [u8], h: Header, r: Ruling) -> Applied
-    requires { (good_table t.old ≡ true) × (length report.old ≡ report_size) × (h ≡ (state_of t.old).header) × (well_formed (ruled (state_of t.old) r) ≡ true) × (lasting (ruled (state_of t.old) r).header ≡ lasting (state_of t.old).header) }
+fn carry_out(t: &mut [u8], report: &mut Report, h: Header, r: Ruling) -> Applied
+    requires { (good_table t.old ≡ true) × (h ≡ (state_of t.old).header) × (well_formed (ruled (state_of t.old) r) ≡ true) × (lasting (ruled (state_of t.old) r).header ≡ lasting (state_of t.old).header) }
     ensures { AppliedAs (carried t.old report.old (state_of t.old) r) result t.new report.new }
 {
-    let aca = h.aca;
     match r {
         Ruling::Keeps(a) => {
             zero_if(report, writes_report(a));
@@ -52,7 +48,10 @@ fn carry_out(t: &mut [u8], report: &mut [u8], h: Header, r: Ruling) -> Applied
             }
         }
         Ruling::Changes(a, c) => {
-            let ended = change(t, report, h.count as usize, aca, c);
+            let Some(table) = t.as_mut_array() else {
+                unreachable!()
+            };
+            let ended = change(table, report, h.count as usize, h.aca, c);
             Applied {
                 answer: a,
                 ended: ended as u8,
@@ -61,22 +60,23 @@ fn carry_out(t: &mut [u8], report: &mut [u8], h: Header, r: Ruling) -> Applied
     }
 }
 
-fn on_event(t: &mut [u8], report: &mut [u8], e: Event) -> Applied
-    requires { (good_table t.old ≡ true) × (length report.old ≡ report_size) × (nexus_of e < nexuses) }
+// Kept (docs/DESIGN-PASS.md, 5): the speed; with the table an array from `apply` on, an event takes 15 and 87 instructions more at 16 and 64 tasks.
+fn on_event(t: &mut [u8], report: &mut Report, e: Event) -> Applied
+    requires { (good_table t.old ≡ true) × (nexus_of e < nexuses) }
     ensures { AppliedAs (carried t.old report.old (state_of t.old) (ruling (state_of t.old) e)) result t.new report.new }
 {
     let h = header_in(t);
-    let r = rule(t, h, e);
+    let Some(table) = t.as_array() else {
+        unreachable!()
+    };
+    let r = rule(table, h, e);
     carry_out(t, report, h, r)
 }
 
-fn refuse(a: Answer) -> Applied
-    ensures { (result.answer ≡ a) × (result.ended ≡ 0) }
+fn refuse(answer: Answer) -> Applied
+    ensures { (result.answer ≡ answer) × (result.ended ≡ 0) }
 {
-    Applied {
-        answer: a,
-        ended: 0,
-    }
+    Applied { answer, ended: 0 }
 }
 
 // Whatever the bytes and however many.
@@ -89,11 +89,14 @@ pub fn apply(t: &mut [u8], report: &mut [u8], event: &[u8]) -> Applied
     if report.len() != REPORT_SIZE {
         return refuse(Answer::BadReport);
     }
-    let EventRead::Readable(e) = event_of(event) else {
+    let Some(e) = event_of(event) else {
         return refuse(Answer::BadEvent);
     };
     if NEXUS_BOUND <= nexus_of(e) {
         return refuse(Answer::NexusAboveSeven);
     }
+    let Some(report) = report.as_mut_array() else {
+        unreachable!()
+    };
     on_event(t, report, e)
 }

@@ -11,28 +11,22 @@ ghost use Rattle.numbers.specs.Boundary.{StartsAs, AppliesAs, NamesAs};
 use crate::apply::apply;
 use crate::name::name;
 use crate::start::start;
-use numbers::{Answered, NamedTurn, in_numbers, turn_in_numbers};
+use numbers::{Answered, NamedTurn};
 
 pub fn dedakhumi_start(table: &mut [u8], policy: u8) -> u8
     ensures { StartsAs table.old policy result table.new }
 {
-    let a = start(table, policy);
-    in_numbers(a, 0).answer
+    Answered::from(start(table, policy)).answer
 }
 
 pub fn dedakhumi_apply(table: &mut [u8], report: &mut [u8], event: &[u8]) -> Answered
     ensures { AppliesAs table.old report.old event.now result table.new report.new }
 {
-    let a = apply(table, report, event);
-    let answer = a.answer;
-    in_numbers(answer, a.ended)
+    apply(table, report, event).into()
 }
 
 pub fn dedakhumi_name(table: &[u8]) -> NamedTurn
     ensures { NamesAs table.now result }
 {
-    let n = name(table);
-    let answer = n.answer;
-    let turn = n.turn;
-    turn_in_numbers(answer, turn)
+    name(table).into()
 }

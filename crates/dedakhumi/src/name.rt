@@ -7,16 +7,17 @@ ghost use Rattle.operations.specs.Operations.{named};
 use find::turn_in;
 use inspect::fits::table_fits;
 use records::header::header_in;
-use values::{Answer, Naming, Turn};
+use values::{Answer, Named, Naming};
 
-fn turn_of_table(t: &[u8]) -> Turn
+fn turn_of_table(t: &[u8]) -> Option<Named>
     requires { good_table t.now ≡ true }
     ensures { result ≡ turn (state_of t.now) }
 {
     let h = header_in(t);
-    let aca = h.aca;
-    let n = h.count as usize;
-    turn_in(t, n, aca, h.run)
+    let Some(table) = t.as_array() else {
+        unreachable!()
+    };
+    turn_in(table, h.count as usize, h.aca, h.run)
 }
 
 // Whatever the bytes and however many.
@@ -26,7 +27,7 @@ pub fn name(t: &[u8]) -> Naming
     if !table_fits(t) {
         return Naming {
             answer: Answer::BadTable,
-            turn: Turn::Nothing,
+            turn: None,
         };
     }
     Naming {

@@ -6,6 +6,7 @@
 --   is_overlapped t e := a task of the table t has the nexus and the tag of the event record e
 --   records_from n l  := the first n task records of l
 --   records_in t      := the task records of the table t, oldest first
+use Rattle.std.specs.Prelude.{Some, None}
 use Prim.Native.Nat.{ℕ, zero, suc, ◌+◌, ◌*◌, ◌≤◌, ◌<◌}
 use mathlib.Core.Bool.{Bool, true, false, ◌&&◌, not}
 use mathlib.Core.Path.{◌≡◌, refl, ap, sym, subst, ◌∙◌}
@@ -43,8 +44,7 @@ use Rattle.history.specs.History.{nobody}
 use Rattle.operations.specs.AnswerNumbers.{said}
 use Rattle.operations.specs.Operations.{Outcome, carried, outcome}
 use Rattle.operations.proofs.Answered.{number_of, number_at_entry, writes_report_ended}
-use Rattle.rules.specs.Types.{Task, Entry, Event, Command, Completion, Management, Condition, EndAll, Policy, Allegiance, Clear, Faulted, Ended, Sense, Answer, EndedAtEntry, Ruling, Keeps, Changes, Named}
-use Rattle.records.specs.declared.events.EventRead.{TheVariants.Readable}
+use Rattle.rules.specs.Types.{Task, Entry, Event, Command, Completion, Management, Condition, EndAll, Policy, Allegiance, Ended, Sense, Answer, EndedAtEntry, Ruling, Keeps, Changes, Named}
 use Rattle.numbers.specs.Boundary.{answered}
 use Rattle.demands.specs.Seen.{event_name, names_from, task_at, present_in, is_listed}
 use Rattle.demands.specs.Demands.{number, Reaches}
@@ -172,7 +172,7 @@ module _ (t r e : List ℕ) where
 
   -- its nexus and its tag
   names_it : (k : SoEnded t r e) → event_name e ≡ record { nexus = k.command.nexus; tag = k.command.tag }
-  names_it k = (event_reads e (Readable (Command k.command)) k.reaches.event).1
+  names_it k = (event_reads e (Some (Command k.command)) k.reaches.event).1
 
   -- what the table says afterwards
   after_it : (k : SoEnded t r e) → state_of (outcome t r e).table ≡ step (state_of t) (Command k.command)
@@ -318,8 +318,8 @@ module _ (t r e : List ℕ) where
           → (get_or b aca_offset 0 ≡ get_or t aca_offset 0)
           × (present_in b ≡ passing (λ (k : Named). not (is_overlapped t e && eqb k.nexus (event_name e).nexus)) (present_in t))
           × (Bytes t → records_in b ≡ passing (λ (x : List ℕ). not (is_overlapped t e && eqb (get_or x nexus_offset 0) (event_name e).nexus)) (records_in t))
-      go Clear q = absurd (aca (aca_byte t ∙ ap aca_number q))
-      go (Faulted f) q =
+      go None q = absurd (aca (aca_byte t ∙ ap aca_number q))
+      go (Some f) q =
           let spares = refused_in_aca (state_of t) k.command k.sense f (says_two k two) q in (
             aca_byte b ∙ ap (λ (s : State). aca_number s.header.aca) (after_it k) ∙ ap aca_number (spares.aca_stays ∙ sym q) ∙ sym (aca_byte t),
             present_in_lem b ∙ ap (λ (s : State). map task_name s.tasks) (after_it k) ∙ left task_name (λ (x : Named). x.nexus) spares.tasks_stay

@@ -4,12 +4,12 @@
 --   run_by a run  := run after the turn of a task with the attribute byte a
 --   ends a       := a call with the COMPLETION record of a nexus and tag, with the status byte a
 --   Alike o p    := two results that differ at most in the status of the one record of the report
+use Rattle.std.specs.Prelude.{Option, Some, None}
 use Prim.Native.Nat.{ℕ, zero, suc, ◌+◌, ◌<◌, min}
 use mathlib.Core.Bool.{true, false, cond, ◌||◌, ◌&&◌, not}
 use mathlib.Core.Path.{◌≡◌, refl, ap, sym, subst, ◌∙◌}
 use mathlib.Core.Logic.{◌⊎◌, inl, inr}
 use mathlib.Core.List.{List, [], ◌∷◌, map}
-use mathlib.Core.Option.{some}
 use native.Mathlib.Omega.{arith}
 use lib.ListN.{length, get_or, take, drop}
 use lib.Seq.{split_at}
@@ -40,7 +40,6 @@ use Rattle.operations.proofs.Answered.{number_of, number_done}
 use Rattle.operations.proofs.Names.{named_good}
 use Rattle.operations.proofs.Looked.{no_table_lem, no_report, no_event, ruled_on}
 use Rattle.rules.specs.Types.{Attribute, Finish, Good, CheckCondition, Busy, ReservationConflict, Event, Command, Completion, Management, Condition, Done, BadTable, BadReport, Named, Ruling, Keeps, Changes}
-use Rattle.records.specs.declared.events.EventRead.{EventRead, TheVariants.Readable, TheVariants.Unreadable}
 use Rattle.numbers.specs.Boundary.{answered, turn_for}
 use Rattle.demands.specs.Calls.{Call}
 use Rattle.demands.specs.Seen.{kind_of, event_name, record_name, task_at, attribute_at, pending_byte, present_in, is_named_by, is_turn_by}
@@ -73,12 +72,12 @@ pub other_status_refused :
     (t r e : List ℕ) → GoodTable t → length r ≡ report_size → kind_of e ≡ 2 → (IsStatus (get_or e first_offset 0) → ⊥) → number t r e ≡ 3
 other_status_refused t r e good long two other = go (event_of e) refl
   where
-    go : (o : EventRead) → event_of e ≡ o → number t r e ≡ 3
-    go Unreadable q = ap (λ (o : Outcome). number_of o.answer) (no_event t r e ((good_table_says t).1 good) long q)
-    go (Readable (Command c)) q = absurd (omega (arith, two, (event_reads e (Readable (Command c)) q).0))
-    go (Readable (Completion n g f)) q = absurd (other (subst IsStatus (sym (status_brought e n g f q)) (is_status f)))
-    go (Readable (Management n f)) q = absurd (omega (arith, two, event_reads e (Readable (Management n f)) q))
-    go (Readable (Condition c)) q = absurd (omega (arith, two, event_reads e (Readable (Condition c)) q))
+    go : (o : Option Event) → event_of e ≡ o → number t r e ≡ 3
+    go None q = ap (λ (o : Outcome). number_of o.answer) (no_event t r e ((good_table_says t).1 good) long q)
+    go (Some (Command c)) q = absurd (omega (arith, two, (event_reads e (Some (Command c)) q).0))
+    go (Some (Completion n g f)) q = absurd (other (subst IsStatus (sym (status_brought e n g f q)) (is_status f)))
+    go (Some (Management n f)) q = absurd (omega (arith, two, event_reads e (Some (Management n f)) q))
+    go (Some (Condition c)) q = absurd (omega (arith, two, event_reads e (Some (Condition c)) q))
 
 -- What an accepted one does ----------------------------------------------------------------------------------------------------------------
 
@@ -106,7 +105,7 @@ module _ (t r e : List ℕ) where
   so_completed done two = let k = reason t r e 0 done in go k.0 k.1
     where
       go : (v : Event) → Reaches t r e v → SoCompleted t r e
-      go (Command c) h = absurd (omega (arith, two, (event_reads e (Readable (Command c)) h.event).0))
+      go (Command c) h = absurd (omega (arith, two, (event_reads e (Some (Command c)) h.event).0))
       go (Completion n g f) h =
           record {
             nexus = n;
@@ -118,8 +117,8 @@ module _ (t r e : List ℕ) where
                 (ap number_of (answer_ruled (state_of t) (Completion n g f))
                 ∙ sym (ap (λ (o : Outcome). number_of o.answer) (carried_out t r e (Completion n g f) h)) ∙ done);
           }
-      go (Management n f) h = absurd (omega (arith, two, event_reads e (Readable (Management n f)) h.event))
-      go (Condition c) h = absurd (omega (arith, two, event_reads e (Readable (Condition c)) h.event))
+      go (Management n f) h = absurd (omega (arith, two, event_reads e (Some (Management n f)) h.event))
+      go (Condition c) h = absurd (omega (arith, two, event_reads e (Some (Condition c)) h.event))
 
   -- RULES 6.5 and 6.9: answered 0 and with another status than 02h it ends its task with that status, and no other; the ACA stands, and nobody is told
   pub completion_only_ends :
@@ -134,7 +133,7 @@ module _ (t r e : List ℕ) where
       let b = (outcome t r e).table in
       let s = state_of t in
       let brought = status_brought e k.nexus k.tag k.finish k.reaches.event in
-      let its = sym (event_reads e (Readable v) k.reaches.event).1 in
+      let its = sym (event_reads e (Some v) k.reaches.event).1 in
       let status = sym brought in
       let after = one_step t r e v k.reaches in
       let mild : status_of k.finish ≡ 0x02 → ⊥ = λ q. other (brought ∙ q) in
@@ -165,7 +164,7 @@ module _ (t r e : List ℕ) where
       let k = so_completed done two in
       let s = state_of t in
       let v = Completion k.nexus k.tag k.finish in
-      let its = (event_reads e (Readable v) k.reaches.event).1 in
+      let its = (event_reads e (Some v) k.reaches.event).1 in
       let u = get_or s.tasks i nobody in
       let is = task_is t i l in
       let name : task_name u ≡ record { nexus = k.nexus; tag = k.tag } = ap task_name is ∙ here ∙ its in
@@ -175,7 +174,7 @@ module _ (t r e : List ℕ) where
         eq-eqb u.tag k.tag (ap (λ (x : Named). x.tag) name),
       )
       in
-      let there : first (same k.nexus k.tag) s.tasks ≡ some u =
+      let there : first (same k.nexus k.tag) s.tasks ≡ Some u =
       distinct_found k.nexus k.tag s.tasks (take i s.tasks) u (drop (suc i) s.tasks) (split_at s.tasks i nobody (omega (arith, count_is t)))
       (says_tested s k.reaches.table.well).apart itself
       in

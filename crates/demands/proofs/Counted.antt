@@ -1,4 +1,5 @@
 -- The turns that a driver counts off bytes and answers are the turns of the rules.
+use Rattle.std.specs.Prelude.{Option, Some, None}
 use Prim.Native.Nat.{ℕ, ◌+◌}
 use mathlib.Core.Bool.{Bool, true, false, ◌&&◌, and-true as and_on, and-false as and_off}
 use mathlib.Core.Path.{◌≡◌, refl, ap, ◌∙◌}
@@ -19,8 +20,7 @@ use Rattle.history.specs.History.{Past, play, is_done, is_turn, turns}
 use Rattle.history.proofs.Reached.{tested_play}
 use Rattle.operations.specs.Operations.{naming}
 use Rattle.operations.proofs.Answered.{number_of}
-use Rattle.rules.specs.Types.{Event, Command, Completion, Management, Condition, Allegiance, Clear, Faulted, Answer, Done, BadTable, BadReport, BadEvent, NexusAboveSeven, NoSuchTask, NotEnabled, EndedAtEntry, Rejected, BadPolicy, Named, Turn, Nothing, Names}
-use Rattle.records.specs.declared.events.EventRead.{EventRead, TheVariants.Readable, TheVariants.Unreadable}
+use Rattle.rules.specs.Types.{Event, Command, Completion, Management, Condition, Allegiance, Answer, Done, BadTable, BadReport, BadEvent, NexusAboveSeven, NoSuchTask, NotEnabled, EndedAtEntry, Rejected, BadPolicy, Named}
 use Rattle.numbers.specs.Boundary.{turn_for}
 use Rattle.demands.specs.Calls.{Call, heard_if, heard, events_in, expected_on, expected_if, expected}
 use Rattle.demands.specs.Seen.{kind_of, event_name, is_named_by, is_turn_by, turns_by}
@@ -40,18 +40,18 @@ done_number Rejected = refl
 done_number BadPolicy = refl
 
 clear_byte : (a : Allegiance) → eqb (aca_number a) 0 ≡ is_clear a
-clear_byte Clear = refl
-clear_byte (Faulted f) = ne_eqb (f + 1) 0 (λ e. omega arith)
+clear_byte None = refl
+clear_byte (Some f) = ne_eqb (f + 1) 0 (λ e. omega arith)
 
-pub named_by : (n g : ℕ) (u : Turn) → is_named_by (turn_for (naming Done u)) (record { nexus = n; tag = g }) ≡ is_named n g u
-named_by n g Nothing = refl
-named_by n g (Names x) = refl
+pub named_by : (n g : ℕ) (u : Option Named) → is_named_by (turn_for (naming Done u)) (record { nexus = n; tag = g }) ≡ is_named n g u
+named_by n g None = refl
+named_by n g (Some x) = refl
 
-abbrev pub turn_in : State → EventRead → Bool
-turn_in s Unreadable = false
-turn_in s (Readable e) = is_turn s e
+abbrev pub turn_in : State → Option Event → Bool
+turn_in s None = false
+turn_in s (Some e) = is_turn s e
 
-abbrev pub turn_if : Bool → State → EventRead → Bool
+abbrev pub turn_if : Bool → State → Option Event → Bool
 turn_if true s o = turn_in s o
 turn_if false s o = false
 
@@ -66,17 +66,17 @@ module _ (s : State) (r e : List ℕ) where
   other_kind : (k : ℕ) (x : Named) (d : Bool) → kind_of e ≡ k → eqb k 2 ≡ false → tests (kind_of e) x d ≡ false
   other_kind k x d q n = rw (q, n, and_off (is_clear s.header.aca))
 
-  turn_parts : (o : EventRead) → Reads o e → tests (kind_of e) (event_name e) (is_done (expected_on s r o).answer) ≡ turn_in s o
-  turn_parts Unreadable q = refused_none (kind_of e) (event_name e)
-  turn_parts (Readable (Command c)) q = other_kind 1 (event_name e) _ q.0 refl
-  turn_parts (Readable (Completion n g f)) q =
-      ap (λ (k : ℕ). tests k (event_name e) (is_done (expected_on s r (Readable (Completion n g f))).answer)) q.0
-      ∙ ap (λ (x : Named). tests 2 x (is_done (expected_on s r (Readable (Completion n g f))).answer)) q.1
+  turn_parts : (o : Option Event) → Reads o e → tests (kind_of e) (event_name e) (is_done (expected_on s r o).answer) ≡ turn_in s o
+  turn_parts None q = refused_none (kind_of e) (event_name e)
+  turn_parts (Some (Command c)) q = other_kind 1 (event_name e) _ q.0 refl
+  turn_parts (Some (Completion n g f)) q =
+      ap (λ (k : ℕ). tests k (event_name e) (is_done (expected_on s r (Some (Completion n g f))).answer)) q.0
+      ∙ ap (λ (x : Named). tests 2 x (is_done (expected_on s r (Some (Completion n g f))).answer)) q.1
       ∙ rw (named_by n g (turn s), and_on (is_clear s.header.aca))
-  turn_parts (Readable (Management n f)) q = other_kind 3 (event_name e) _ q refl
-  turn_parts (Readable (Condition c)) q = other_kind 4 (event_name e) _ q refl
+  turn_parts (Some (Management n f)) q = other_kind 3 (event_name e) _ q refl
+  turn_parts (Some (Condition c)) q = other_kind 4 (event_name e) _ q refl
 
-  turn_if_lem : (b : Bool) (o : EventRead) → Reads o e → tests (kind_of e) (event_name e) (is_done (expected_if b s r o).answer) ≡ turn_if b s o
+  turn_if_lem : (b : Bool) (o : Option Event) → Reads o e → tests (kind_of e) (event_name e) (is_done (expected_if b s r o).answer) ≡ turn_if b s o
   turn_if_lem true o q = turn_parts o q
   turn_if_lem false o q = refused_none (kind_of e) (event_name e)
 
@@ -91,11 +91,11 @@ turn_is s m w =
     (turn_if_lem s m.report m.event (fits m) (event_of m.event) (event_reads m.event (event_of m.event) refl))
 
 one_event :
-    (b : Bool) (h : Past) (o : EventRead) (es : List Event)
+    (b : Bool) (h : Past) (o : Option Event) (es : List Event)
     → one_if (turn_if b h.state o) + turns (play h (heard_if b o)) es ≡ turns h (heard_if b o ++ es)
 one_event false h o es = omega arith
-one_event true h Unreadable es = omega arith
-one_event true h (Readable e) es = refl
+one_event true h None es = omega arith
+one_event true h (Some e) es = refl
 
 pub turns_run : (ms : List Call) (h : Past) → Tested h.state → turns_by (table_bytes h.state) ms ≡ turns h (events_in ms)
 turns_run [] h w = refl

@@ -1,4 +1,5 @@
 -- RULES 22.2, accepted, read off answers: a command enters exactly where a COMMAND is answered 0.
+use Rattle.std.specs.Prelude.{Option, Some, None}
 use Prim.Native.Nat.{ℕ}
 use mathlib.Core.Bool.{Bool, true, false, cond, ◌&&◌, and-false as and_off}
 use mathlib.Core.Path.{◌≡◌, refl, ap, sym, ◌∙◌}
@@ -15,7 +16,6 @@ use Rattle.history.specs.History.{Past, play, accepted, is_done}
 use Rattle.history.proofs.Advanced.{advance_roll}
 use Rattle.history.proofs.Accepted.{accepted_if_done}
 use Rattle.rules.specs.Types.{Task, Entry, Event, Command, Completion, Management, Condition}
-use Rattle.records.specs.declared.events.EventRead.{EventRead, TheVariants.Readable, TheVariants.Unreadable}
 use Rattle.demands.specs.Calls.{Call, heard_if, heard, command_task, expected_if, expected}
 use Rattle.demands.specs.Seen.{kind_of, is_accepted}
 use Rattle.demands.proofs.Runs.{outcome_is}
@@ -31,32 +31,32 @@ nothing false false = refl
 none_enters : (s : State) (e : Event) → is_command e ≡ false → accepted s e ≡ cond (is_done (answer s e)) [] []
 none_enters s e n = only_commands_join s e n ∙ nothing false (is_done (answer s e))
 
-pub enters_rule : (s : State) (e : Event) → accepted s e ≡ cond (is_done (answer s e)) (command_task (Readable e)) []
+pub enters_rule : (s : State) (e : Event) → accepted s e ≡ cond (is_done (answer s e)) (command_task (Some e)) []
 enters_rule s (Command c) = accepted_if_done s c
 enters_rule s (Completion n g f) = none_enters s (Completion n g f) refl
 enters_rule s (Management n f) = none_enters s (Management n f) refl
 enters_rule s (Condition c) = none_enters s (Condition c) refl
 
 -- by the kind and whether the answer is 0
-abbrev entering : ℕ → Bool → EventRead → List Task
+abbrev entering : ℕ → Bool → Option Event → List Task
 entering k d o = cond (eqb k 1 && d) (command_task o) []
 
-refused_none : (k : ℕ) (o : EventRead) → [] ≡ entering k false o
+refused_none : (k : ℕ) (o : Option Event) → [] ≡ entering k false o
 refused_none k o = rw (and_off (eqb k 1))
 
 entering_is :
-    (e : List ℕ) (v : Event) (d : Bool) → Reads (Readable v) e → cond d (command_task (Readable v)) [] ≡ entering (kind_of e) d (Readable v)
-entering_is e (Command c) d q = ap (λ (k : ℕ). entering k d (Readable (Command c))) (sym q.0)
+    (e : List ℕ) (v : Event) (d : Bool) → Reads (Some v) e → cond d (command_task (Some v)) [] ≡ entering (kind_of e) d (Some v)
+entering_is e (Command c) d q = ap (λ (k : ℕ). entering k d (Some (Command c))) (sym q.0)
 entering_is e (Completion n g f) d q = nothing d (eqb (kind_of e) 1 && d)
 entering_is e (Management n f) d q = nothing d (eqb (kind_of e) 1 && d)
 entering_is e (Condition c) d q = nothing d (eqb (kind_of e) 1 && d)
 
 lets_if :
-    (h : Past) (b : Bool) (r e : List ℕ) (o : EventRead) → Reads o e
+    (h : Past) (b : Bool) (r e : List ℕ) (o : Option Event) → Reads o e
     → (play h (heard_if b o)).roll ≡ h.roll ++ entering (kind_of e) (is_done (expected_if b h.state r o).answer) o
 lets_if h false r e o q = sym (append-nil h.roll) ∙ ap (λ (l : List Task). h.roll ++ l) (refused_none (kind_of e) o)
-lets_if h true r e Unreadable q = sym (append-nil h.roll) ∙ ap (λ (l : List Task). h.roll ++ l) (refused_none (kind_of e) Unreadable)
-lets_if h true r e (Readable v) q =
+lets_if h true r e None q = sym (append-nil h.roll) ∙ ap (λ (l : List Task). h.roll ++ l) (refused_none (kind_of e) None)
+lets_if h true r e (Some v) q =
     advance_roll h v
     ∙ ap (λ (l : List Task). h.roll ++ l) (enters_rule h.state v ∙ entering_is e v (is_done (answer h.state v)) q)
 
@@ -70,7 +70,7 @@ lets_one h m w =
 -- what a call that is accepted brings
 pub record Entering (h : Past) (m : Call) : Type 0 where
   pub command : Entry
-  pub read : event_of m.event ≡ Readable (Command command)
+  pub read : event_of m.event ≡ Some (Command command)
   pub asked : heard m ≡ Command command ∷ []
   pub joins : accepted h.state (Command command) ≡ new_task command ∷ []
 
@@ -79,22 +79,22 @@ accepted_enters h m w a =
     go (fits m) (event_of m.event) refl refl (event_reads m.event (event_of m.event) refl)
     (rw (outcome_is h.state m w, done_number (expected h.state m).answer) at a)
   where
-    entered : Bool → EventRead → Bool
+    entered : Bool → Option Event → Bool
     entered b o = eqb (kind_of m.event) 1 && is_done (expected_if b h.state m.report o).answer
 
     other : {P : Type 0} (k : ℕ) (d : Bool) → kind_of m.event ≡ k → eqb k 1 ≡ false → eqb (kind_of m.event) 1 && d ≡ true → P
     other k d q n e = not_both (rw q at (and-true (eqb (kind_of m.event) 1) d e).0) n
 
-    go : (b : Bool) (o : EventRead) → fits m ≡ b → event_of m.event ≡ o → Reads o m.event → entered b o ≡ true → Entering h m
+    go : (b : Bool) (o : Option Event) → fits m ≡ b → event_of m.event ≡ o → Reads o m.event → entered b o ≡ true → Entering h m
     go false o f r q e = not_both e (and_off (eqb (kind_of m.event) 1))
-    go true Unreadable f r q e = not_both e (and_off (eqb (kind_of m.event) 1))
-    go true (Readable (Command c)) f r q e =
+    go true None f r q e = not_both e (and_off (eqb (kind_of m.event) 1))
+    go true (Some (Command c)) f r q e =
         record {
           command = c;
           read = r;
           asked = rw (f, r);
           joins = enters_rule h.state (Command c) ∙ rw (and-true (eqb (kind_of m.event) 1) _ e).1;
         }
-    go true (Readable (Completion n g x)) f r q e = other 2 _ q.0 refl e
-    go true (Readable (Management n x)) f r q e = other 3 _ q refl e
-    go true (Readable (Condition c)) f r q e = other 4 _ q refl e
+    go true (Some (Completion n g x)) f r q e = other 2 _ q.0 refl e
+    go true (Some (Management n x)) f r q e = other 3 _ q refl e
+    go true (Some (Condition c)) f r q e = other 4 _ q refl e

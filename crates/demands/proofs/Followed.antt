@@ -1,9 +1,9 @@
 -- The mission's demand 2: over any calls on a started table, the operations follow the rules.
+use Rattle.std.specs.Prelude.{Some}
 use Prim.Native.Nat.{ℕ}
 use mathlib.Core.Path.{◌≡◌, refl, ap, sym, ◌∙◌}
 use mathlib.Core.Bool.{cond}
 use mathlib.Core.List.{List, [], ◌∷◌, ◌++◌, map, append-nil}
-use mathlib.Core.Option.{some}
 use native.Mathlib.Omega.{arith}
 use Rattle.rules.specs.Rulings.{fresh, task_name, ended_name}
 use Rattle.rules.proofs.FreshSet.{fresh_tasks}
@@ -61,12 +61,12 @@ module _ (p : Policy) where
   unfolding opened
   listed_all ms = listed_run ms (begin (fresh p)) (tested_fresh p)
 
-  ledger_after : (ms : List Call) → ledger_by (opened p) ms [] ≡ some (present_in (table_by (opened p) ms))
+  ledger_after : (ms : List Call) → ledger_by (opened p) ms [] ≡ Some (present_in (table_by (opened p) ms))
   unfolding opened
   ledger_after ms =
       ap (λ (l : List Task). ledger_by (opened p) ms (map task_name l)) (sym (fresh_tasks p))
       ∙ ledger_run ms (begin (fresh p)) (tested_fresh p)
-      ∙ ap (λ l. some l)
+      ∙ ap (λ l. Some l)
       (sym (present_is (after p (events_in ms)).state (tested_after p (events_in ms)))
       ∙ ap present_in (sym (table_after_lem ms)))
 

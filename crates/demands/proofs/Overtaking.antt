@@ -1,4 +1,5 @@
 -- The mission's accident over bytes, and that whom name names can be completed: on every table, whatever calls led to it.
+use Rattle.std.specs.Prelude.{Option, Some, None}
 use Prim.Native.Nat.{ℕ, suc, ◌+◌, ◌-◌, ◌≤◌, ◌<◌}
 use mathlib.Core.Bool.{true, false, ◌&&◌, not, and-true as and_on}
 use mathlib.Core.Path.{◌≡◌, refl, ap, sym, subst, ◌∙◌}
@@ -28,8 +29,7 @@ use Rattle.records.proofs.EventsSay.{event_bytes_back}
 use Rattle.history.specs.History.{nobody, is_done}
 use Rattle.operations.specs.Operations.{named}
 use Rattle.operations.proofs.Names.{named_good}
-use Rattle.rules.specs.Types.{Task, Finish, Event, Command, Completion, Management, Condition, Done, Named, Turn, Nothing, Names}
-use Rattle.records.specs.declared.events.EventRead.{TheVariants.Readable}
+use Rattle.rules.specs.Types.{Task, Finish, Event, Command, Completion, Management, Condition, Done, Named}
 use Rattle.numbers.specs.declared.NamedTurn.{NamedTurn}
 use Rattle.numbers.specs.Boundary.{turn_in_numbers, turn_for}
 use Rattle.demands.specs.Seen.{kind_of, event_name, record_name, task_at, attribute_at}
@@ -56,9 +56,9 @@ module _ (t r e : List ℕ) (done : number t r e ≡ 0) (completes : kind_of e �
   not_waiting :
       (v : Event) → Reaches t r e v
       → any (λ (u : Task). same (event_name e).nexus (event_name e).tag u && not (enabled_task u)) (state_of t).tasks ≡ false
-  not_waiting (Command c) h = absurd (omega (arith, completes, (event_reads e (Readable (Command c)) h.event).0))
+  not_waiting (Command c) h = absurd (omega (arith, completes, (event_reads e (Some (Command c)) h.event).0))
   not_waiting (Completion n g f) h =
-      let names = (event_reads e (Readable (Completion n g f)) h.event).1 in
+      let names = (event_reads e (Some (Completion n g f)) h.event).1 in
       split (any (λ (u : Task). same (event_name e).nexus (event_name e).tag u && not (enabled_task u)) (state_of t).tasks)
       (λ y.
       let waits : Waits (state_of t) (Completion n g f) =
@@ -66,8 +66,8 @@ module _ (t r e : List ℕ) (done : number t r e ≡ 0) (completes : kind_of e �
       in
       absurd (omega (arith, done, (demand1.not_enabled t r e).1 (Completion n g f, h, waits))))
       (λ y. y)
-  not_waiting (Management n f) h = absurd (omega (arith, completes, event_reads e (Readable (Management n f)) h.event))
-  not_waiting (Condition c) h = absurd (omega (arith, completes, event_reads e (Readable (Condition c)) h.event))
+  not_waiting (Management n f) h = absurd (omega (arith, completes, event_reads e (Some (Management n f)) h.event))
+  not_waiting (Condition c) h = absurd (omega (arith, completes, event_reads e (Some (Condition c)) h.event))
 
   enabled_there : (v : Event) → Reaches t r e v → (i : ℕ) → i < count_in t → record_name (task_at t i) ≡ event_name e → enabled_task (get_or (state_of t).tasks i nobody) ≡ true
   enabled_there v h i l q =
@@ -118,10 +118,10 @@ module _ (t : List ℕ) (good : GoodTable t) where
       (λ y. not_both (ap is_done q) (ap is_done ((nexus_says (state_of t) v).1 (ltb-false (nexus_of v) nexuses y))))
 
   done_by :
-      (r : List ℕ) (f : Finish) → length r ≡ report_size → (u : Turn) → turn (state_of t) ≡ u → (turn_in_numbers Done u).found ≡ true
+      (r : List ℕ) (f : Finish) → length r ≡ report_size → (u : Option Named) → turn (state_of t) ≡ u → (turn_in_numbers Done u).found ≡ true
       → number t r (event_bytes (Completion (turn_in_numbers Done u).nexus (turn_in_numbers Done u).tag f)) ≡ 0
-  done_by r f l Nothing e q = not_both q refl
-  done_by r f l (Names x) e q =
+  done_by r f l None e q = not_both q refl
+  done_by r f l (Some x) e q =
       let v = Completion x.nexus x.tag f in
       let d = named_completes (state_of t) x.nexus x.tag f good.well (ap (is_named x.nexus x.tag) e ∙ self x) in
       reached t r (event_bytes v) v
@@ -129,7 +129,7 @@ module _ (t : List ℕ) (good : GoodTable t) where
       Done
       d
     where
-      self : (x : Named) → is_named x.nexus x.tag (Names x) ≡ true
+      self : (x : Named) → is_named x.nexus x.tag (Some x) ≡ true
       self x = rw (eq-eqb x.nexus x.nexus refl, eq-eqb x.tag x.tag refl)
 
   -- whom name names can be completed, with any of the four statuses: apply answers 0
@@ -146,10 +146,10 @@ module _ (t : List ℕ) (good : GoodTable t) where
   pub somebody_is_named : get_or t aca_offset 0 ≡ 0 → 1 ≤ count_in t → (turn_for (named t)).found ≡ true
   somebody_is_named c n = ap (λ (u : NamedTurn). u.found) turn_is ∙ go (turn (state_of t)) refl
     where
-      go : (u : Turn) → turn (state_of t) ≡ u → (turn_in_numbers Done u).found ≡ true
-      go Nothing e =
+      go : (u : Option Named) → turn (state_of t) ≡ u → (turn_in_numbers Done u).found ≡ true
+      go None e =
           absurd
           (somebody_named (state_of t) good.well (clear_is t c)
           (λ z. omega (arith, count_is t, ap length z))
           e)
-      go (Names x) e = refl
+      go (Some x) e = refl

@@ -1,4 +1,5 @@
 -- What bytes say of the event, the report and the table that they write: kinds and names.
+use Rattle.std.specs.Prelude.{Option, Some, None}
 use Prim.Native.Nat.{ℕ, zero, suc, ◌+◌, ◌<◌}
 use mathlib.Core.Bool.{Bool, false, ◌||◌, not}
 use mathlib.Core.Path.{◌≡◌, refl, ap, sym, ◌∙◌}
@@ -28,8 +29,7 @@ use Rattle.history.specs.Waits.{heads_among, others_among}
 use Rattle.octets.proofs.Tags.{tag_back}
 use Rattle.records.proofs.ReadBack.{state_back_again}
 use Rattle.records.proofs.EventsSay.{event_fields}
-use Rattle.rules.specs.Types.{Attribute, Task, Asked, Known, NoneOfFour, Entry, Finish, Command, Completion, Management, Condition, Clear, Ended, Named}
-use Rattle.records.specs.declared.events.EventRead.{EventRead, TheVariants.Readable, TheVariants.Unreadable}
+use Rattle.rules.specs.Types.{Attribute, Task, Entry, Finish, Command, Completion, Management, Condition, Ended, Named, Event}
 use Rattle.demands.specs.Seen.{kind_of, event_name, names_from, task_at, attributes_from, heads_in, others_in, present_in}
 
 -- Events -----------------------------------------------------------------------------------------------------------------------------------
@@ -39,12 +39,12 @@ name_of : {n m g k : ℕ} → n ≡ m → tag_in (replicate tag_offset 0 ++ tag_
 name_of {g = g} {k = k} p t = let q : g ≡ k = sym (tag_back g) ∙ t ∙ tag_back k in λ i. record { nexus = p i; tag = q i }
 
 -- by what is read: the record's kind, and whom it names
-abbrev pub Reads : EventRead → List ℕ → Type 0
-Reads Unreadable e = Unit {0}
-Reads (Readable (Command c)) e = (kind_of e ≡ 1) × (event_name e ≡ record { nexus = c.nexus; tag = c.tag })
-Reads (Readable (Completion n g f)) e = (kind_of e ≡ 2) × (event_name e ≡ record { nexus = n; tag = g })
-Reads (Readable (Management n f)) e = kind_of e ≡ 3
-Reads (Readable (Condition h)) e = kind_of e ≡ 4
+abbrev pub Reads : Option Event → List ℕ → Type 0
+Reads None e = Unit {0}
+Reads (Some (Command c)) e = (kind_of e ≡ 1) × (event_name e ≡ record { nexus = c.nexus; tag = c.tag })
+Reads (Some (Completion n g f)) e = (kind_of e ≡ 2) × (event_name e ≡ record { nexus = n; tag = g })
+Reads (Some (Management n f)) e = kind_of e ≡ 3
+Reads (Some (Condition h)) e = kind_of e ≡ 4
 
 -- RULES 14.2: the byte of HEAD OF QUEUE
 pub head_byte : (n : ℕ) → is_head (attribute_from n) ≡ eqb n 1
@@ -60,35 +60,35 @@ module _ (e : List ℕ) where
   field : (i : ℕ) {l k : List ℕ} → l ≡ k → get_or l i 0 ≡ get_or k i 0
   field i q = ap (λ (b : List ℕ). get_or b i 0) q
 
-  pub event_reads : (o : EventRead) → event_of e ≡ o → Reads o e
-  event_reads Unreadable q = tt
-  event_reads (Readable (Command c)) q =
+  pub event_reads : (o : Option Event) → event_of e ≡ o → Reads o e
+  event_reads None q = tt
+  event_reads (Some (Command c)) q =
       let l = (event_fields e (Command c) q).1 in (field 2 l, name_of (field 3 l) (ap tag_in l))
-  event_reads (Readable (Completion n g f)) q =
+  event_reads (Some (Completion n g f)) q =
       let l = (event_fields e (Completion n g f) q).1 in (field 2 l, name_of (field 3 l) (ap tag_in l))
-  event_reads (Readable (Management n f)) q = field 2 (event_fields e (Management n f) q).1
-  event_reads (Readable (Condition h)) q = field 2 (event_fields e (Condition h) q).1
+  event_reads (Some (Management n f)) q = field 2 (event_fields e (Management n f) q).1
+  event_reads (Some (Condition h)) q = field 2 (event_fields e (Condition h) q).1
 
   -- the status, of a completion
-  pub status_brought : (n g : ℕ) (f : Finish) → event_of e ≡ Readable (Completion n g f) → get_or e first_offset 0 ≡ status_of f
+  pub status_brought : (n g : ℕ) (f : Finish) → event_of e ≡ Some (Completion n g f) → get_or e first_offset 0 ≡ status_of f
   status_brought n g f q = field 4 (event_fields e (Completion n g f) q).1
 
   -- NACA and exempt, of a command
-  pub second_asked : (c : Entry) → event_of e ≡ Readable (Command c) → get_or e second_offset 0 ≡ second_number c
+  pub second_asked : (c : Entry) → event_of e ≡ Some (Command c) → get_or e second_offset 0 ≡ second_number c
   second_asked c q = field 5 (event_fields e (Command c) q).1
 
   -- the byte of a known attribute
-  pub known_asked : (c : Entry) (t : Attribute) → event_of e ≡ Readable (Command c) → c.asked ≡ Known t → get_or e first_offset 0 ≡ attribute_number t
+  pub known_asked : (c : Entry) (t : Attribute) → event_of e ≡ Some (Command c) → c.asked ≡ Some t → get_or e first_offset 0 ≡ attribute_number t
   known_asked c t q z = field 4 (event_fields e (Command c) q).1 ∙ ap (asked_number (get_or e first_offset 0)) z
 
   -- RULES 14.2: only the byte 1 lets a HEAD OF QUEUE task in
-  pub head_asked : (c : Entry) → event_of e ≡ Readable (Command c) → is_head (new_task c).attribute ≡ eqb (get_or e first_offset 0) 1
+  pub head_asked : (c : Entry) → event_of e ≡ Some (Command c) → is_head (new_task c).attribute ≡ eqb (get_or e first_offset 0) 1
   head_asked c q =
       let l = event_fields e (Command c) q in ap is_head (new_task_attribute c) ∙ go c.asked l.0 (field 4 l.1)
     where
-      go : (a : Asked) → SpareAttribute (get_or e 4 0) a → get_or e 4 0 ≡ asked_number (get_or e 4 0) a → is_head (attribute_of a) ≡ eqb (get_or e 4 0) 1
-      go (Known t) s z = ap is_head (sym (attribute_back t)) ∙ head_byte (attribute_number t) ∙ ap (λ n. eqb n 1) (sym z)
-      go NoneOfFour s z = sym (unfit (get_or e 4 0) s)
+      go : (a : Option Attribute) → SpareAttribute (get_or e 4 0) a → get_or e 4 0 ≡ asked_number (get_or e 4 0) a → is_head (attribute_of a) ≡ eqb (get_or e 4 0) 1
+      go (Some t) s z = ap is_head (sym (attribute_back t)) ∙ head_byte (attribute_number t) ∙ ap (λ n. eqb n 1) (sym z)
+      go None s z = sym (unfit (get_or e 4 0) s)
 
 -- Reports ----------------------------------------------------------------------------------------------------------------------------------
 
@@ -128,7 +128,7 @@ module _ (b : List ℕ) where
   pub aca_byte : get_or b aca_offset 0 ≡ aca_number (state_of b).header.aca
   aca_byte = sym (ap aca_number aca_is ∙ aca_good (get_or b aca_offset 0))
 
-  pub clear_is : get_or b aca_offset 0 ≡ 0 → (state_of b).header.aca ≡ Clear
+  pub clear_is : get_or b aca_offset 0 ≡ 0 → (state_of b).header.aca ≡ None
   clear_is z = aca_is ∙ ap aca_from z
 
   pub run_is : (state_of b).header.run ≡ get_or b run_offset 0

@@ -1,4 +1,5 @@
 -- The mission's demand 1: every call is answered, each number stands exactly where it applies, and what is refused changes nothing.
+use Rattle.std.specs.Prelude.{Option, Some, None}
 use Prim.Native.Nat.{ℕ, zero, suc, ◌≤◌}
 use mathlib.Core.Bool.{true, false}
 use mathlib.Core.Path.{◌≡◌, refl, ap, sym, ◌∙◌}
@@ -25,8 +26,7 @@ use Rattle.operations.proofs.Names.{named_bad, named_good}
 use Rattle.operations.proofs.Answered.{number_of}
 use Rattle.operations.proofs.Buffers.{outcome_unchanged, outcome_emptied}
 use Rattle.operations.specs.Operations.{Outcome, carried, outcome, named}
-use Rattle.rules.specs.Types.{Event, Answer, Done, BadTable, BadReport, BadEvent, NexusAboveSeven, NoSuchTask, NotEnabled, EndedAtEntry, Rejected, BadPolicy, Turn, Nothing, Names}
-use Rattle.records.specs.declared.events.EventRead.{TheVariants.Readable, TheVariants.Unreadable}
+use Rattle.rules.specs.Types.{Event, Answer, Done, BadTable, BadReport, BadEvent, NexusAboveSeven, NoSuchTask, NotEnabled, EndedAtEntry, Rejected, BadPolicy, Named}
 use Rattle.numbers.specs.Boundary.{turn_in_numbers, turn_for, start_number}
 use Rattle.demands.specs.Demands.{Demand1, number, name_number, Reaches, Fields}
 use Rattle.demands.proofs.Fielded.{refused_fields, ruled_fields}
@@ -46,8 +46,8 @@ module _ (t r e : List ℕ) where
   Reason zero = (v : Event) × Reaches t r e v
   Reason (suc zero) = GoodTable t → ⊥
   Reason (suc (suc zero)) = GoodTable t × (length r ≡ report_size → ⊥)
-  Reason (suc (suc (suc zero))) = GoodTable t × (length r ≡ report_size) × (event_of e ≡ Unreadable)
-  Reason (suc (suc (suc (suc zero)))) = GoodTable t × (length r ≡ report_size) × ((v : Event) × (event_of e ≡ Readable v) × (nexuses ≤ nexus_of v))
+  Reason (suc (suc (suc zero))) = GoodTable t × (length r ≡ report_size) × (event_of e ≡ None)
+  Reason (suc (suc (suc (suc zero)))) = GoodTable t × (length r ≡ report_size) × ((v : Event) × (event_of e ≡ Some v) × (nexuses ≤ nexus_of v))
   Reason (suc (suc (suc (suc (suc zero))))) = RuledBy Absent
   Reason (suc (suc (suc (suc (suc (suc zero)))))) = RuledBy Waits
   Reason (suc (suc (suc (suc (suc (suc (suc zero))))))) = RuledBy EndsAtEntry
@@ -100,19 +100,19 @@ module _ (t r e : List ℕ) where
 
 -- Start and name --------------------------------------------------------------------------------------------------------------------------------
 
-turn_number : (a : Answer) (u : Turn) → (turn_in_numbers a u).answer ≡ number_of a
-turn_number a Nothing = refl
-turn_number a (Names n) = refl
+turn_number : (a : Answer) (u : Option Named) → (turn_in_numbers a u).answer ≡ number_of a
+turn_number a None = refl
+turn_number a (Some n) = refl
 
-turn_nothing : (a : Answer) (u : Turn) → (turn_in_numbers a u).found ≡ false → ((turn_in_numbers a u).nexus ≡ 0) × ((turn_in_numbers a u).tag ≡ 0)
-turn_nothing a Nothing q = (refl, refl)
-turn_nothing a (Names n) q = not_both refl q
+turn_nothing : (a : Answer) (u : Option Named) → (turn_in_numbers a u).found ≡ false → ((turn_in_numbers a u).nexus ≡ 0) × ((turn_in_numbers a u).tag ≡ 0)
+turn_nothing a None q = (refl, refl)
+turn_nothing a (Some n) q = not_both refl q
 
 module _ (t : List ℕ) where
   good_named : GoodTable t → name_number t ≡ 0
   good_named w = ap (λ n. (turn_for n).answer) (named_good t ((good_table_says t).1 w)) ∙ turn_number Done (turn (state_of t))
 
-  bad_named : (GoodTable t → ⊥) → turn_for (named t) ≡ turn_in_numbers BadTable Nothing
+  bad_named : (GoodTable t → ⊥) → turn_for (named t) ≡ turn_in_numbers BadTable None
   bad_named n = ap turn_for (named_bad t (not_good t n))
 
   good_or_bad : {P : Type 0} → (GoodTable t → P) → ((GoodTable t → ⊥) → P) → P

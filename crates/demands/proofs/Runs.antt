@@ -1,4 +1,5 @@
 -- A run over bytes is the run of the rules over the events that they are asked.
+use Rattle.std.specs.Prelude.{Option, Some, None}
 use Prim.Native.Nat.{ℕ}
 use mathlib.Core.Bool.{Bool, true, false}
 use mathlib.Core.Path.{◌≡◌, refl, ap, sym, ◌∙◌}
@@ -22,7 +23,6 @@ use Rattle.operations.proofs.Names.{named_good}
 use Rattle.operations.proofs.Carried.{ruling_carried}
 use Rattle.operations.specs.Operations.{Outcome, carried, on_event, outcome, naming, named}
 use Rattle.rules.specs.Types.{Event, Done}
-use Rattle.records.specs.declared.events.EventRead.{EventRead, TheVariants.Readable, TheVariants.Unreadable}
 use Rattle.demands.specs.Calls.{Call, applied, table_by, heard_if, heard, events_in, expected_on, expected_if, expected}
 
 -- One call -----------------------------------------------------------------------------------------------------------------------------------
@@ -30,9 +30,9 @@ use Rattle.demands.specs.Calls.{Call, applied, table_by, heard_if, heard, events
 outcome_on : (s : State) (r v : List ℕ) → Tested s → length r ≡ report_size → outcome (table_bytes s) r v ≡ expected_on s r (event_of v)
 outcome_on s r v w l = looked (table_bytes s) r v (good_written s w) l (event_of v) refl ∙ go (event_of v)
   where
-    go : (o : EventRead) → on_event (table_bytes s) r o ≡ expected_on s r o
-    go Unreadable = refl
-    go (Readable e) =
+    go : (o : Option Event) → on_event (table_bytes s) r o ≡ expected_on s r o
+    go None = refl
+    go (Some e) =
         ap (λ (z : State). carried (table_bytes s) r z (ruling z e)) (state_back_again s w.counted w.eight) ∙ ruling_carried s r e
 
 -- whatever is lent
@@ -55,10 +55,10 @@ events_append (m ∷ xs) ys =
     ap (λ (l : List Event). heard m ++ l) (events_append xs ys) ∙ sym (append_assoc (heard m) (events_in xs) (events_in ys))
 
 table_step :
-    (h : Past) (b : Bool) (r : List ℕ) (o : EventRead) → (expected_if b h.state r o).table ≡ table_bytes (play h (heard_if b o)).state
+    (h : Past) (b : Bool) (r : List ℕ) (o : Option Event) → (expected_if b h.state r o).table ≡ table_bytes (play h (heard_if b o)).state
 table_step h false r o = refl
-table_step h true r Unreadable = refl
-table_step h true r (Readable e) = ap table_bytes (sym (advance_state h e))
+table_step h true r None = refl
+table_step h true r (Some e) = ap table_bytes (sym (advance_state h e))
 
 pub one_call : (h : Past) (m : Call) → Tested h.state → (applied (table_bytes h.state) m).table ≡ table_bytes (play h (heard m)).state
 one_call h m w =

@@ -1,4 +1,5 @@
 -- Calls made of events: the rules are asked those events, and what a driver sees is what the rules say of them.
+use Rattle.std.specs.Prelude.{Some}
 use Prim.Native.Nat.{ℕ}
 use mathlib.Core.Path.{◌≡◌, refl, ap, sym, ◌∙◌}
 use mathlib.Core.Bool.{Bool, true, false, cond}
@@ -14,7 +15,6 @@ use Rattle.rules.proofs.WellKept.{Tested}
 use Rattle.records.specs.Tables.{report_size, table_bytes}
 use Rattle.records.specs.Events.{event_of, event_bytes}
 use Rattle.records.proofs.EventsSay.{event_bytes_back}
-use Rattle.records.specs.declared.events.EventRead.{TheVariants.Readable}
 use Rattle.history.specs.History.{Past, advance, play, after, accepted, is_done, is_turn, turns}
 use Rattle.history.specs.Waits.{heads_among, others_among}
 use Rattle.history.proofs.Reached.{tested_after}
@@ -48,7 +48,7 @@ accepted_call :
     (s : State) (c : Entry) (t : Task) → Tested s → accepted s (Command c) ≡ t ∷ [] → is_accepted (table_bytes s) (call_of (Command c)) ≡ true
 accepted_call s c t w j =
     rw (outcome_is s (call_of (Command c)) w, done_number (expected s (call_of (Command c))).answer)
-    (rw (zeros_fit, event_bytes_back (Command c), (event_reads (event_bytes (Command c)) (Readable (Command c)) (event_bytes_back (Command c))).0)
+    (rw (zeros_fit, event_bytes_back (Command c), (event_reads (event_bytes (Command c)) (Some (Command c)) (event_bytes_back (Command c))).0)
     (done_joins (is_done (answer s (Command c))) (new_task c) t (sym (accepted_if_done s c) ∙ j)))
 
 -- it is a turn where the event is one

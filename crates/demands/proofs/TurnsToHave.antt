@@ -1,4 +1,5 @@
 -- While no ACA is in effect, a table with tasks has a turn: somebody is named, and the completion of that task is answered 0.
+use Rattle.std.specs.Prelude.{Some}
 use Prim.Native.Nat.{ℕ, ◌≤◌}
 use mathlib.Core.Path.{◌≡◌, refl, ap, ◌∙◌}
 use mathlib.Core.Bool.{Bool, true, ◌&&◌}
@@ -11,7 +12,6 @@ use Rattle.records.specs.Numbers.{policy_from}
 use Rattle.records.specs.Tables.{GoodTable, report_size, count_in}
 use Rattle.records.specs.Events.{event_bytes}
 use Rattle.records.proofs.EventsSay.{event_bytes_back}
-use Rattle.records.specs.declared.events.EventRead.{TheVariants.Readable}
 use Rattle.operations.specs.Operations.{named}
 use Rattle.numbers.specs.Boundary.{turn_for}
 use Rattle.demands.specs.Calls.{table_by, opened}
@@ -33,7 +33,7 @@ has_turn t f good z n =
     let u = turn_for (named t) in
     let e = Completion u.nexus u.tag f in
     let found = somebody_is_named t good z n in
-    let reads = event_reads (event_bytes e) (Readable e) (event_bytes_back e) in
+    let reads = event_reads (event_bytes e) (Some e) (event_bytes_back e) in
     let done = named_can_complete t good (replicate report_size 0) f (length-replicate {A = ℕ} report_size 0) found in
     let itself : is_named_by u (record { nexus = u.nexus; tag = u.tag }) ≡ true =
     rw (found, eq-eqb u.nexus u.nexus refl, eq-eqb u.tag u.tag refl)

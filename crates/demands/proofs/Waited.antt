@@ -1,4 +1,5 @@
 -- The wait by what the operations answer: the longest there is, the customer's figure, and the mission's demand 3, each by the one before.
+use Rattle.std.specs.Prelude.{Some}
 use Prim.Native.Nat.{ℕ, zero, suc, ◌+◌, ◌≤◌}
 use mathlib.Core.Path.{◌≡◌, refl, ap, sym, ◌∙◌}
 use mathlib.Core.Bool.{Bool, true}
@@ -23,7 +24,6 @@ use Rattle.history.proofs.Wait.{waits_longest}
 use Rattle.history.proofs.Listed.{end_is_listed}
 use Rattle.operations.specs.Operations.{started}
 use Rattle.rules.specs.Types.{Event, Command, Policy, Named}
-use Rattle.records.specs.declared.events.EventRead.{TheVariants.Readable}
 use Rattle.demands.specs.Calls.{Call, table_by, heard, events_in, opened}
 use Rattle.demands.specs.Seen.{event_name, attributes_from, heads_in, others_in, is_accepted, listed_by, is_listed, turns_by}
 use Rattle.demands.specs.Demands.{Demand3, Holds, WaitsRequested}
@@ -54,7 +54,7 @@ module _ (p : Policy) (ms : List Call) where
   after_one m e q = after_append p ms (m ∷ []) ∙ ap (λ (l : List Event). play (after p (events_in ms)) (l ++ [])) q
 
 new_name : (m : Call) (h : Past) (x : Entering h m) → event_name m.event ≡ task_name (new_task x.command)
-new_name m h x = (event_reads m.event (Readable (Command x.command)) x.read).1 ∙ sym (new_task_name x.command)
+new_name m h x = (event_reads m.event (Some (Command x.command)) x.read).1 ∙ sym (new_task_name x.command)
 
 module _ (p : Policy) (ms : List Call) (m : Call) (later : List Call) where
   abbrev before : List ℕ

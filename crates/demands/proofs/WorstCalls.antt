@@ -1,4 +1,5 @@
 -- The worst cases over bytes: one turn before the figure the task is still there, so no lower figure holds.
+use Rattle.std.specs.Prelude.{Some}
 use Prim.Native.Nat.{ℕ, zero, suc, ◌+◌, ◌≤◌, ◌<◌}
 use mathlib.Core.Path.{◌≡◌, refl, ap, sym, ◌∙◌}
 use mathlib.Core.Bool.{Bool, true, false}
@@ -11,7 +12,7 @@ use Rattle.laws.specs.Lists.{one_if, any}
 use Rattle.laws.proofs.Bools.{not_both, split}
 use Rattle.laws.proofs.Lists.{any_append}
 use Rattle.octets.specs.Sizes.{first_offset}
-use Rattle.rules.specs.Types.{Known, Entry, Finish, Event, Command, Completion, Policy, Named}
+use Rattle.rules.specs.Types.{Entry, Finish, Event, Command, Completion, Policy, Named}
 use Rattle.rules.specs.Tasks.{places, is_aca}
 use Rattle.rules.specs.Rulings.{State, ended_name, same_name}
 use Rattle.rules.proofs.WellKept.{Tested}
@@ -19,7 +20,6 @@ use Rattle.records.specs.Numbers.{attribute_number, attribute_from, policy_from,
 use Rattle.records.specs.Tables.{table_size}
 use Rattle.records.specs.Events.{event_of, event_bytes}
 use Rattle.records.proofs.EventsSay.{event_bytes_back}
-use Rattle.records.specs.declared.events.EventRead.{TheVariants.Readable}
 use Rattle.history.specs.History.{advance, play, after}
 use Rattle.history.specs.Waits.{longest, itself, worst_before, worst_since}
 use Rattle.history.proofs.Reached.{tested_advance, tested_play, tested_after}
@@ -52,14 +52,14 @@ ordinary_number = by_ordinary (λ x. attribute_number (attribute_from x) ≡ x) 
 
 module _ (x : ℕ) where
   abbrev entry : Entry
-  entry = record { nexus = 2; asked = Known (attribute_from x); naca = false; exempt = true; tag = 0 }
+  entry = record { nexus = 2; asked = Some (attribute_from x); naca = false; exempt = true; tag = 0 }
 
-  read_back : event_of (event_bytes (Command entry)) ≡ Readable (Command entry)
+  read_back : event_of (event_bytes (Command entry)) ≡ Some (Command entry)
   read_back = event_bytes_back (Command entry)
 
   -- the task itself comes in as 2.0, with the attribute byte x
   named_itself : event_name (call_itself x).event ≡ itself
-  named_itself = (event_reads (event_bytes (Command entry)) (Readable (Command entry)) read_back).1
+  named_itself = (event_reads (event_bytes (Command entry)) (Some (Command entry)) read_back).1
 
   asked_byte : x ≤ 2 → get_or (call_itself x).event first_offset 0 ≡ x
   asked_byte few = known_asked (event_bytes (Command entry)) entry (attribute_from x) read_back refl ∙ ordinary_number x few

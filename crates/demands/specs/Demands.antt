@@ -12,8 +12,7 @@
 --   WaitsRequested      := the customer's figure holds
 --   WaitsLongest        := `longest` holds; and for all a and b that a table has room for, every policy and each attribute other than ACA, no lower figure does
 --   TurnsToHave         := while no ACA is in effect, a table with tasks has a turn: the completion of the task that is named
-use Rattle.std.specs.Prelude.{ℕ, ◌+◌, ◌*◌, ◌≤◌, ◌<◌, ◌≡◌, Bool, true, false, cond, List, [], ◌∷◌, ◌++◌, map, ◌↔◌, ◌⊎◌, eqb, length, get_or, replicate}
-use Rattle.std.proofs.Math.Option.{some}
+use Rattle.std.specs.Prelude.{ℕ, ◌+◌, ◌*◌, ◌≤◌, ◌<◌, ◌≡◌, Bool, true, false, cond, List, [], ◌∷◌, ◌++◌, map, ◌↔◌, ◌⊎◌, eqb, length, get_or, replicate, Some, None}
 use Rattle.octets.specs.Sizes.{aca_offset, first_offset}
 use Rattle.rules.specs.Tasks.{places, nexuses}
 use Rattle.rules.specs.Rulings.{turn, task_name}
@@ -26,7 +25,6 @@ use Rattle.history.specs.History.{after, look, unstated, in_table, has_ended}
 use Rattle.history.specs.Waits.{requested, longest}
 use Rattle.operations.specs.Operations.{Outcome, outcome, naming, named, started}
 use Rattle.rules.specs.Types.{Finish, Event, Policy, Done}
-use Rattle.records.specs.declared.events.EventRead.{TheVariants.Readable, TheVariants.Unreadable}
 use Rattle.numbers.specs.Boundary.{answered, turn_for, start_number}
 use Rattle.demands.specs.Calls.{Call, applied, table_by, events_in, command_task, opened, expected}
 use Rattle.demands.specs.Seen.{event_name, heads_in, others_in, present_in, is_accepted, ended_in, listed_by, is_listed, is_turn_by, turns_by, ledger_by}
@@ -45,7 +43,7 @@ name_number t = (turn_for (named t)).answer
 pub record Reaches (t r e : List ℕ) (v : Event) : Type 0 where
   pub table : GoodTable t
   pub report : length r ≡ report_size
-  pub event : event_of e ≡ Readable v
+  pub event : event_of e ≡ Some v
   pub nexus : nexus_of v < nexuses
 
 -- RULES 12.3, 18.2 and 19.2: what stands beside the answer
@@ -63,10 +61,10 @@ pub record Demand1 : Type 0 where
   pub some_answer : (t r e : List ℕ) → number t r e ≤ 8
   pub bad_table : (t r e : List ℕ) → (number t r e ≡ 1) ↔ (GoodTable t → ⊥)
   pub bad_report : (t r e : List ℕ) → (number t r e ≡ 2) ↔ (GoodTable t × (length r ≡ report_size → ⊥))
-  pub bad_event : (t r e : List ℕ) → (number t r e ≡ 3) ↔ (GoodTable t × (length r ≡ report_size) × (event_of e ≡ Unreadable))
-  pub no_event : (e : List ℕ) → Bytes e → (event_of e ≡ Unreadable) ↔ (IsEvent e → ⊥)
+  pub bad_event : (t r e : List ℕ) → (number t r e ≡ 3) ↔ (GoodTable t × (length r ≡ report_size) × (event_of e ≡ None))
+  pub no_event : (e : List ℕ) → Bytes e → (event_of e ≡ None) ↔ (IsEvent e → ⊥)
   pub bad_nexus : (t r e : List ℕ)
-      → (number t r e ≡ 4) ↔ (GoodTable t × (length r ≡ report_size) × ((v : Event) × (event_of e ≡ Readable v) × (nexuses ≤ nexus_of v)))
+      → (number t r e ≡ 4) ↔ (GoodTable t × (length r ≡ report_size) × ((v : Event) × (event_of e ≡ Some v) × (nexuses ≤ nexus_of v)))
   pub no_such_task : (t r e : List ℕ) → (number t r e ≡ 5) ↔ ((v : Event) × Reaches t r e v × Absent (state_of t) v)
   pub not_enabled : (t r e : List ℕ) → (number t r e ≡ 6) ↔ ((v : Event) × Reaches t r e v × Waits (state_of t) v)
   pub at_entry : (t r e : List ℕ) → (number t r e ≡ 7) ↔ ((v : Event) × Reaches t r e v × EndsAtEntry (state_of t) v)
@@ -121,7 +119,7 @@ pub record Demand2 : Type 0 where
   -- as a port driver sees it, by bytes and answers alone: a ledger that gains the command of each COMMAND answered 0 and drops what each report
   -- lists holds at every moment just the table's tasks, oldest first, and no drop finds nobody
   pub ledger : (t : List ℕ) (b : ℕ) (ms : List Call) → start_number t b ≡ 0
-      → ledger_by (started t b).table ms [] ≡ some (present_in (table_by (started t b).table ms))
+      → ledger_by (started t b).table ms [] ≡ Some (present_in (table_by (started t b).table ms))
 
 -- 3 ----------------------------------------------------------------------------------------------------------------------------------------
 

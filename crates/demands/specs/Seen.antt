@@ -18,8 +18,7 @@
 --   gained t m           := the command that the call adds to the ledger, as a list of one or none
 --   strike k l, strike_all ks l := l without the first of the name k, without those of the names ks; none where one of them is not there
 --   ledger_by t ms l      := the driver's ledger, l before the calls ms, after them; none where a report lists somebody who is not in it
-use Rattle.std.specs.Prelude.{ℕ, zero, suc, ◌+◌, ◌*◌, Bool, cond, ◌&&◌, not, List, [], ◌∷◌, ◌++◌, eqb, get_or, take, drop}
-use Rattle.std.proofs.Math.Option.{Option, none, some}
+use Rattle.std.specs.Prelude.{ℕ, zero, suc, ◌+◌, ◌*◌, Bool, cond, ◌&&◌, not, List, [], ◌∷◌, ◌++◌, eqb, get_or, take, drop, Option, Some, None}
 use Rattle.laws.specs.Lists.{one_if, any, count}
 use Rattle.laws.specs.RecordsInLists.{record_at}
 use Rattle.octets.specs.Sizes.{aca_offset, pending_offset, kind_offset, sender_offset, nexus_offset, attribute_offset}
@@ -127,16 +126,16 @@ turns_by t (m ∷ ms) = one_if (is_turn_by t m) + turns_by (applied t m).table m
 
 -- RULES 22.4: on with what is there, or with nothing
 abbrev pub found : {A B : Type 0} → Option A → (A → Option B) → Option B
-found none f = none
-found (some a) f = f a
+found None f = None
+found (Some a) f = f a
 
 -- RULES 22.4: a name dropped; there has to be one
 abbrev pub strike : Named → List Named → Option (List Named)
-strike k [] = none
-strike k (x ∷ l) = cond (same_name k x) (some l) (found (strike k l) (λ r. some (x ∷ r)))
+strike k [] = None
+strike k (x ∷ l) = cond (same_name k x) (Some l) (found (strike k l) (λ r. Some (x ∷ r)))
 
 abbrev pub strike_all : List Named → List Named → Option (List Named)
-strike_all [] l = some l
+strike_all [] l = Some l
 strike_all (k ∷ ks) l = found (strike k l) (strike_all ks)
 
 -- RULES 22.4: a call drops what its report lists, and adds its command where that is accepted, as the youngest
@@ -145,5 +144,5 @@ gained t m = cond (is_accepted t m) (event_name m.event ∷ []) []
 
 -- RULES 22.4
 abbrev pub ledger_by : List ℕ → List Call → List Named → Option (List Named)
-ledger_by t [] l = some l
+ledger_by t [] l = Some l
 ledger_by t (m ∷ ms) l = found (strike_all (listed t m) l) (λ r. ledger_by (applied t m).table ms (r ++ gained t m))

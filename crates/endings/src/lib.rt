@@ -2,46 +2,31 @@
 #![tactic(auto)]
 
 ghost use Rattle.std.specs.Prelude.{◌≡◌};
-ghost use Rattle.std.proofs.Math.Option.{some};
-ghost use Rattle.rules.specs.Rules.{aca_after, status_of};
-ghost use Rattle.decide.specs.Searches.{task_in};
+ghost use Rattle.rules.specs.Rules.{aca_after};
 
 use decide::states::{is_aca, is_enabled};
-use decide::turns::Found;
-use parts::{aca_if, tell, tells_others};
-use values::{Allegiance, Answer, Change, Finish, Header, Joins, Notice, Ruling, Sweep, Task, Top};
+use parts::{tell, tells_others};
+use values::{Answer, Change, Finish, Header, Notice, Ruling, Sweep, Task};
 
-fn aca_after(t: Task, aca: Allegiance) -> Allegiance
+fn aca_after(t: Task, aca: Option<u8>) -> Option<u8>
     ensures { result ≡ aca_after t aca }
 {
-    let a = t.attribute;
-    aca_if(
-        t.naca,
-        Allegiance::Faulted(t.nexus),
-        aca_if(is_aca(a), Allegiance::Clear, aca),
-    )
-}
-
-fn status_of(f: Finish) -> u8
-    ensures { result ≡ status_of f }
-{
-    match f {
-        Finish::Good => 0x00,
-        Finish::CheckCondition => 0x02,
-        Finish::Busy => 0x08,
-        Finish::ReservationConflict => 0x18,
+    if t.naca {
+        Some(t.nexus)
+    } else if is_aca(t.attribute) {
+        None
+    } else {
+        aca
     }
 }
 
 fn ending(h: Header, f: Finish, t: Task, named: bool) -> Change
     ensures { result ≡ Rattle.rules.specs.Rules.ending h f t named }
 {
-    let a = t.attribute;
-    let st = status_of(f);
     Change {
-        sweep: Sweep::OneTask(t.nexus, t.tag, st),
-        joins: Joins::NoTask,
-        header: h.run_next(a, named),
+        sweep: Sweep::OneTask(t.nexus, t.tag, f as u8),
+        joins: None,
+        header: h.run_next(t.attribute, named),
         notice: Notice::Quiet,
     }
 }
@@ -49,36 +34,24 @@ fn ending(h: Header, f: Finish, t: Task, named: bool) -> Change
 pub fn finish(h: Header, f: Finish, t: Task, named: bool) -> Change
     ensures { result ≡ Rattle.rules.specs.Rules.finish h f t named }
 {
-    let a = t.attribute;
-    let aca = h.aca;
-    let policy = h.policy;
-    let qerr = policy.qerr;
     match f {
         Finish::CheckCondition => Change {
-            sweep: Sweep::FailedTask(t.nexus, t.tag, policy),
-            joins: Joins::NoTask,
-            header: h.run_next(a, named).with_aca(aca_after(t, aca)),
-            notice: tell(t.nexus, Top::NoBit, tells_others(qerr, policy.tas)),
+            sweep: Sweep::FailedTask(t.nexus, t.tag, h.policy),
+            joins: None,
+            header: h.run_next(t.attribute, named).with_aca(aca_after(t, h.aca)),
+            notice: tell(t.nexus, None, tells_others(h.policy.qerr, h.policy.tas)),
         },
         _ => ending(h, f, t, named),
     }
 }
 
-fn complete_here(h: Header, t: Task, f: Finish, named: bool) -> Ruling
-    ensures { result ≡ Rattle.rules.specs.Rules.complete h (some t) f named }
-{
-    let s = t.state;
-    if is_enabled(s) {
-        return Ruling::Changes(Answer::Done, finish(h, f, t, named));
-    }
-    Ruling::Keeps(Answer::NotEnabled)
-}
-
-pub fn complete(h: Header, found: Found, f: Finish, named: bool) -> Ruling
-    ensures { result ≡ Rattle.rules.specs.Rules.complete h (task_in found) f named }
+#[tactic(auto, unfolding(rules::specs::Rules::complete))]
+pub fn complete(h: Header, found: Option<Task>, f: Finish, named: bool) -> Ruling
+    ensures { result ≡ Rattle.rules.specs.Rules.complete h found f named }
 {
     match found {
-        Found::Nowhere => Ruling::Keeps(Answer::NoSuchTask),
-        Found::Here(t) => complete_here(h, t, f, named),
+        None => Ruling::Keeps(Answer::NoSuchTask),
+        Some(t) if is_enabled(t.state) => Ruling::Changes(Answer::Done, finish(h, f, t, named)),
+        Some(_) => Ruling::Keeps(Answer::NotEnabled),
     }
 }

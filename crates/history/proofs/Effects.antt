@@ -1,15 +1,15 @@
 -- What an event does to run, and that a turn ends the named task.
+use Rattle.std.specs.Prelude.{Some, None, Option}
 use Prim.Native.Nat.{ℕ}
 use mathlib.Core.Bool.{Bool, true, false, cond, ◌&&◌, and-true as and_on, and-false as and_off}
 use mathlib.Core.Path.{◌≡◌, refl, sym, ◌∙◌}
 use mathlib.Core.List.{List, []}
-use mathlib.Core.Option.{Option, none, some}
 use mathlib.Core.Logic.{◌⊎◌, inl, inr}
 use lib.Dec.{eqb}
 use borrow.Author.Tests.{eq-eqb}
 use Rattle.laws.specs.Lists.{first}
 use Rattle.laws.proofs.Bools.{and-true, not_both, cases}
-use Rattle.rules.specs.Types.{Task, Finish, Function, AbortTask, AbortTaskSet, ClearTaskSet, ClearAca, LogicalUnitReset, Unknown, Happening, PowerOn, HardReset, NexusLoss, Event, Command, Completion, Management, Condition, Allegiance, Clear, Faulted, Header, Change, NexusAboveSeven, Ruling, Keeps, Changes}
+use Rattle.rules.specs.Types.{Task, Finish, Function, AbortTask, AbortTaskSet, ClearTaskSet, ClearAca, LogicalUnitReset, Unknown, Happening, PowerOn, HardReset, NexusLoss, Event, Command, Completion, Management, Condition, Allegiance, Header, Change, NexusAboveSeven, Ruling, Keeps, Changes}
 use Rattle.values.specs.Headers.{run_after}
 use Rattle.rules.specs.Tasks.{is_enabled, same, whose_turn, turn_of, is_named}
 use Rattle.rules.specs.Rulings.{State, is_clear, turn, fate_of}
@@ -28,9 +28,9 @@ abbrev pub Quiet : State → Change → Type 0
 Quiet s c = (c.header.run ≡ s.header.run) ⊎ ((u : Task) → is_ends (fate_of c.sweep u) ≡ true)
 
 pub record TurnOf (s : State) (c : Change) : Type 0 where
-  pub clear : s.header.aca ≡ Clear
+  pub clear : s.header.aca ≡ None
   pub task : Task
-  pub is_named_lem : whose_turn s.header.aca s.header.run s.tasks ≡ some task
+  pub is_named_lem : whose_turn s.header.aca s.header.run s.tasks ≡ Some task
   pub ends : is_ends (fate_of c.sweep task) ≡ true
   pub run : c.header.run ≡ run_after task.attribute s.header.run
 
@@ -46,9 +46,9 @@ EffectR s e (Changes a c) = Effect s (turn_by s e a) c
 no_turn : (s : State) (c : Change) → Quiet s c → Effect s false c
 no_turn s c h = record { quiet = λ e. h; turn = λ e. not_both e refl }
 
-clear_is : (a : Allegiance) → is_clear a ≡ true → a ≡ Clear
-clear_is Clear e = refl
-clear_is (Faulted f) e = not_both e refl
+clear_is : (a : Allegiance) → is_clear a ≡ true → a ≡ None
+clear_is None e = refl
+clear_is (Some f) e = not_both e refl
 
 -- the completed task ends
 finish_ends : (h : Header) (f : Finish) (t : Task) (b : Bool) → is_ends (fate_of (finish h f t b).sweep t) ≡ true
@@ -59,24 +59,24 @@ finish_ends h f t b =
 
 -- in an ACA the completed task is the ACA task, which leaves run
 aca_leaves_run :
-    (a : Allegiance) (ts : List Task) (n g run : ℕ) (t : Task) → is_clear a ≡ false → states_fit a ts ≡ true → first (same n g) ts ≡ some t
+    (a : Allegiance) (ts : List Task) (n g run : ℕ) (t : Task) → is_clear a ≡ false → states_fit a ts ≡ true → first (same n g) ts ≡ Some t
     → is_enabled t.state ≡ true → run_after t.attribute run ≡ run
-aca_leaves_run Clear ts n g run t c w h k = not_both refl c
-aca_leaves_run (Faulted f) ts n g run t c w h k = rw (is_aca_lem t.attribute (held_found f [] (same n g) ts t w h k).0)
+aca_leaves_run None ts n g run t c w h k = not_both refl c
+aca_leaves_run (Some f) ts n g run t c w h k = rw (is_aca_lem t.attribute (held_found f [] (same n g) ts t w h k).0)
 
 named_is :
-    (s : State) (n g : ℕ) (t : Task) → Tested s → is_named n g (turn s) ≡ true → first (same n g) s.tasks ≡ some t
-    → whose_turn s.header.aca s.header.run s.tasks ≡ some t
+    (s : State) (n g : ℕ) (t : Task) → Tested s → is_named n g (turn s) ≡ true → first (same n g) s.tasks ≡ Some t
+    → whose_turn s.header.aca s.header.run s.tasks ≡ Some t
 named_is s n g t w e h = go (whose_turn s.header.aca s.header.run s.tasks) refl e
   where
     go :
         (o : Option Task) → whose_turn s.header.aca s.header.run s.tasks ≡ o → is_named n g (turn_of o) ≡ true
-        → whose_turn s.header.aca s.header.run s.tasks ≡ some t
-    go none q z = not_both z refl
-    go (some x) q z = q ∙ sym (named_found s.header.aca s.header.run n g s.tasks x w.apart q z) ∙ h
+        → whose_turn s.header.aca s.header.run s.tasks ≡ Some t
+    go None q z = not_both z refl
+    go (Some x) q z = q ∙ sym (named_found s.header.aca s.header.run n g s.tasks x w.apart q z) ∙ h
 
 effect_finish :
-    (s : State) (n g : ℕ) (f : Finish) (t : Task) → Tested s → first (same n g) s.tasks ≡ some t → is_enabled t.state ≡ true
+    (s : State) (n g : ℕ) (f : Finish) (t : Task) → Tested s → first (same n g) s.tasks ≡ Some t → is_enabled t.state ≡ true
     → Effect s (is_clear s.header.aca && is_named n g (turn s) && true) (finish s.header f t (is_named n g (turn s)))
 effect_finish s n g f t w h k =
     record {
@@ -109,8 +109,8 @@ effect_manage s n ClearTaskSet = no_turn s _ (inl refl)
 effect_manage s n ClearAca = go s.header.aca
   where
     go : (a : Allegiance) → EffectR s (Management n ClearAca) (clearing s.header n a)
-    go Clear = refl
-    go (Faulted f) = cases (EffectR s (Management n ClearAca)) (eqb n f) (λ e. no_turn s _ (inl refl)) (λ e. refl)
+    go None = refl
+    go (Some f) = cases (EffectR s (Management n ClearAca)) (eqb n f) (λ e. no_turn s _ (inl refl)) (λ e. refl)
 effect_manage s n LogicalUnitReset = no_turn s _ (inr (λ u. refl))
 effect_manage s n Unknown = refl
 

@@ -1,10 +1,11 @@
 -- Computed: the longest waits are met, and well-formed states with tasks, an ACA and run not 0 are reached.
+use Rattle.std.specs.Prelude.{Some}
 use Prim.Native.Nat.{ℕ}
 use mathlib.Core.Bool.{true, false}
 use mathlib.Core.Path.{◌≡◌, refl}
 use mathlib.Core.List.{List, [], ◌∷◌, ◌++◌, map}
 use lib.ListN.{length}
-use Rattle.rules.specs.Types.{Attribute, Simple, HeadOfQueue, Ordered, Aca, Dormant, Enabled, Blocked, Event, Completion, Good, CheckCondition, EndNone, Policy, Faulted}
+use Rattle.rules.specs.Types.{Attribute, Simple, HeadOfQueue, Ordered, Aca, Dormant, Enabled, Blocked, Event, Completion, Good, CheckCondition, EndNone, Policy}
 use Rattle.rules.specs.Tasks.{is_head, whose_turn}
 use Rattle.rules.specs.Rulings.{fresh}
 use Rattle.rules.specs.Rules.{new_task, enter, complete, rule_for, ruling, answer}
@@ -68,7 +69,7 @@ into_aca =
     ∷ []
 
 pub witness :
-    ((after policy into_aca).state.header.aca ≡ Faulted 0) × ((after policy into_aca).state.header.run ≡ 1)
+    ((after policy into_aca).state.header.aca ≡ Some 0) × ((after policy into_aca).state.header.run ≡ 1)
     × ((after policy into_aca).state.tasks
     ≡ record { nexus = 1; attribute = HeadOfQueue; state = Blocked; naca = false; tag = 2 }
     ∷ record { nexus = 2; attribute = Ordered; state = Dormant; naca = false; tag = 1 }

@@ -1,4 +1,5 @@
 -- An enabled task never becomes ineligible, whatever comes.
+use Rattle.std.specs.Prelude.{Some, None}
 use Prim.Native.Nat.{ℕ, ◌≤◌}
 use mathlib.Core.Bool.{false}
 use mathlib.Core.Path.{◌≡◌, refl, ap}
@@ -8,7 +9,7 @@ use borrow.Author.Tests.{not-true}
 use Rattle.laws.specs.Lists.{any}
 use Rattle.laws.proofs.Bools.{not_both, split}
 use Rattle.laws.proofs.Lists.{any_never}
-use Rattle.rules.specs.Types.{Attribute, Aca, Enabled, Task, Event, Policy, Allegiance, Clear, Faulted, Ruling, Keeps, Changes}
+use Rattle.rules.specs.Types.{Attribute, Aca, Enabled, Task, Event, Policy, Allegiance, Ruling, Keeps, Changes}
 use Rattle.rules.specs.Tasks.{is_aca, holds_back}
 use Rattle.rules.specs.Rulings.{State, fate_of}
 use Rattle.rules.specs.Rules.{ruling}
@@ -56,8 +57,8 @@ enabled_eligible : (s : State) (older : List Task) (t : Task) (younger : List Ta
 enabled_eligible s older t younger w e n = go s.header.aca refl
   where
     go : (a : Allegiance) → s.header.aca ≡ a → Eligible older t
-    go Clear q = (w.without_aca q older t younger e).enabled_only_if n
-    go (Faulted f) q =
+    go None q = (w.without_aca q older t younger e).enabled_only_if n
+    go (Some f) q =
         split (is_aca t.attribute)
         (λ y. rw (is_aca_lem t.attribute y, any_never (holds_back Aca) (attributes older) (λ x. refl)))
         (λ y. absurd ((w.in_an_aca f q older t younger e).other_not_enabled (λ z. not_both (ap is_aca z) y) n))

@@ -1,9 +1,9 @@
 -- Events one by one from a table without ACA: how many turns they are, and that they end no task of nexus 2.
+use Rattle.std.specs.Prelude.{Some, None}
 use Prim.Native.Nat.{ℕ, ◌+◌, ◌<◌}
 use mathlib.Core.Bool.{Bool, true, false}
 use mathlib.Core.Path.{◌≡◌, refl, ap, sym, ◌∙◌}
 use mathlib.Core.List.{List, [], ◌∷◌, ◌++◌, map, append_assoc, append-nil, map-append}
-use mathlib.Core.Option.{some}
 use native.Mathlib.Omega.{arith}
 use lib.Dec.{eqb, ltb}
 use lib.ListN.{length}
@@ -11,7 +11,7 @@ use borrow.Author.Tests.{eqb-true, eq-eqb}
 use Rattle.laws.specs.Lists.{one_if, any}
 use Rattle.laws.proofs.Bools.{not_both, split}
 use Rattle.laws.proofs.Lists.{any_append}
-use Rattle.rules.specs.Types.{Attribute, Enabled, Task, Finish, Event, Completion, Good, Policy, Clear, Named, Fate, Stays, Ends, Ruling, Keeps, Changes}
+use Rattle.rules.specs.Types.{Attribute, Enabled, Task, Finish, Event, Completion, Good, Policy, Named, Fate, Ruling, Keeps, Changes}
 use Rattle.values.specs.Headers.{run_after}
 use Rattle.rules.specs.Tasks.{places, nexuses, is_aca, same, with_state, settle_from, whose_turn, is_named}
 use Rattle.rules.specs.Rulings.{State, turn, fresh, fate_of, answer_of, ended_from, report_of, ended_name}
@@ -86,8 +86,8 @@ spared_by fate (t ∷ ts) s = go (fate t) (λ y. s t y) (spared_by fate ts s)
     go :
         (f : Fate) → (t.nexus ≡ 2 → is_ends f ≡ false) → any of_two (map ended_name (ended_from (map fate ts) ts)) ≡ false
         → any of_two (map ended_name (ended_from (f ∷ map fate ts) (t ∷ ts))) ≡ false
-    go Stays n r = r
-    go (Ends st) n r = split (eqb 2 t.nexus) (λ y. not_both refl (n (sym (eqb-true 2 t.nexus y)))) (λ y. rw y r)
+    go None n r = r
+    go (Some st) n r = split (eqb 2 t.nexus) (λ y. not_both refl (n (sym (eqb-true 2 t.nexus y)))) (λ y. rw y r)
 
 report_spares :
     (s : State) (r : Ruling) → ((t : Task) → t.nexus ≡ 2 → ends_by r t ≡ false) → any of_two (map ended_name (report_of s r)) ≡ false
@@ -124,7 +124,7 @@ module _ (p : Policy) where
 
   -- whoever is named there, the completion of that task is a turn
   pub at_turn :
-      {run : ℕ} {ts : List Task} {h : Past} (u : Task) → whose_turn Clear run (settle_from [] ts) ≡ some u → At run ts h → (f : Finish)
+      {run : ℕ} {ts : List Task} {h : Past} (u : Task) → whose_turn None run (settle_from [] ts) ≡ Some u → At run ts h → (f : Finish)
       → is_turn h.state (Completion u.nexus u.tag f) ≡ true
   at_turn {h = h} u m t f =
       let named : is_named u.nexus u.tag (turn h.state) ≡ true =
@@ -146,7 +146,7 @@ module _ (p : Policy) where
   -- the named task ends
   pub goes :
       {run : ℕ} (pre : List Task) (u : Task) (post : List Task) {h : Past}
-      → whose_turn Clear run (settle_from [] (pre ++ u ∷ post)) ≡ some (with_state u Enabled) → ltb u.nexus nexuses ≡ true
+      → whose_turn None run (settle_from [] (pre ++ u ∷ post)) ≡ Some (with_state u Enabled) → ltb u.nexus nexuses ≡ true
       → eqb 2 u.nexus ≡ false → At run (pre ++ u ∷ post) h
       → Leads 1 (At (run_after u.attribute run) (pre ++ post)) h (Completion u.nexus u.tag Good ∷ [])
   unfolding advance

@@ -1,4 +1,5 @@
 -- A task's place: where the command with a serial number stands in the table, over an event.
+use Rattle.std.specs.Prelude.{Some, None}
 use Prim.Native.Nat.{ℕ, ◌≤◌}
 use mathlib.Core.Bool.{Bool, true, false, not}
 use mathlib.Core.Path.{◌≡◌, refl, ap, sym, ◌∙◌}
@@ -10,7 +11,7 @@ use borrow.Author.Tests.{eq-eqb}
 use Rattle.laws.specs.Lists.{one_if, count}
 use Rattle.laws.proofs.Bools.{not_both, split}
 use Rattle.laws.proofs.Lists.{count_append}
-use Rattle.rules.specs.Types.{Attribute, Task, Event, Allegiance, Clear, Faulted, Fate, Stays, Ends, Ruling, Keeps, Changes}
+use Rattle.rules.specs.Types.{Attribute, Task, Event, Allegiance, Fate, Ruling, Keeps, Changes}
 use Rattle.rules.specs.Tasks.{is_head, settle_from, restate}
 use Rattle.rules.specs.Rulings.{kept, lost, fate_of, newcomers, joins_of}
 use Rattle.rules.specs.Rules.{ruling}
@@ -57,8 +58,8 @@ place_kept {k = k} {t = t} fate e (there {j = j} {u = u} {ks = ks} {ts = ts} {ol
     go :
         (f : Fate) → Place k t (kept (map fate ts) ks) (kept (map fate ts) ts) (kept (map fate older) older)
         → Place k t (kept (f ∷ map fate ts) (j ∷ ks)) (kept (f ∷ map fate ts) (u ∷ ts)) (kept (f ∷ map fate older) (u ∷ older))
-    go Stays q = there q
-    go (Ends st) q = q
+    go None q = there q
+    go (Some st) q = q
 
 -- the task's place in a table with other states: behind tasks of the same attributes
 pub record Moved (k : ℕ) (t : Task) (ks : List ℕ) (ts older : List Task) : Type 0 where
@@ -95,18 +96,18 @@ place_blocked (there {u = u} p) = moved_there u _ refl (place_blocked p)
 
 place_restate :
     {k : ℕ} {t : Task} {ks : List ℕ} {ts pre : List Task} (a b : Allegiance) → Place k t ks ts pre → Moved k t ks (restate a b ts) pre
-place_restate a Clear p = place_settle [] p
-place_restate Clear (Faulted n) p = place_blocked p
-place_restate {t = t} {pre = pre} (Faulted m) (Faulted n) p =
+place_restate a None p = place_settle [] p
+place_restate None (Some n) p = place_blocked p
+place_restate {t = t} {pre = pre} (Some m) (Some n) p =
     record { self = t; before = pre; place = p; attribute = refl; same = refl }
 
 lost_cons : (p : ℕ → Bool) (f : Fate) (fs : List Fate) (j : ℕ) (js : List ℕ) → count p (lost fs js) ≤ count p (lost (f ∷ fs) (j ∷ js))
-lost_cons p Stays fs j js = omega arith
-lost_cons p (Ends st) fs j js = omega arith
+lost_cons p None fs j js = omega arith
+lost_cons p (Some st) fs j js = omega arith
 
 lost_here : (k : ℕ) (f : Fate) (fs : List Fate) (ks : List ℕ) → is_ends f ≡ true → 1 ≤ count (eqb k) (lost (f ∷ fs) (k ∷ ks))
-lost_here k Stays fs ks e = not_both e refl
-lost_here k (Ends st) fs ks e = omega (arith, ap one_if (eq-eqb k k refl))
+lost_here k None fs ks e = not_both e refl
+lost_here k (Some st) fs ks e = omega (arith, ap one_if (eq-eqb k k refl))
 
 -- a task that ends is among those that ended
 place_lost :

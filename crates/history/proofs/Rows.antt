@@ -1,4 +1,5 @@
 -- Rows of tasks of one nexus, and what stands in the table before the task of a worst case comes in.
+use Rattle.std.specs.Prelude.{None}
 use Prim.Native.Nat.{ℕ, zero, suc, ◌+◌}
 use mathlib.Core.Bool.{Bool, true, false, cond}
 use mathlib.Core.Path.{◌≡◌, refl, ap, ◌∙◌}
@@ -7,7 +8,7 @@ use native.Mathlib.Omega.{arith}
 use lib.ListN.{length, length-append}
 use Rattle.laws.specs.Lists.{one_if, any, count}
 use Rattle.laws.proofs.Lists.{count_append, any_append}
-use Rattle.rules.specs.Types.{Attribute, Simple, HeadOfQueue, Task, Clear}
+use Rattle.rules.specs.Types.{Attribute, Simple, HeadOfQueue, Task}
 use Rattle.rules.specs.Tasks.{same, settle_from}
 use Rattle.rules.proofs.Distinct.{map_restate}
 use Rattle.history.proofs.Places.{count_attributes}
@@ -59,7 +60,7 @@ pub count_standing :
     → count (λ (t : Task). q t.attribute) (settle_from [] (standing head a b)) ≡ cond (q HeadOfQueue) a 0 + cond (q Simple) b 0
 count_standing q head a b =
     count_attributes q (settle_from [] (standing head a b)) (standing head a b)
-    (map_restate (λ (t : Task). t.attribute) (λ t st. refl) Clear Clear (standing head a b))
+    (map_restate (λ (t : Task). t.attribute) (λ t st. refl) None None (standing head a b))
     ∙ go head
   where
     passes : Task → Bool

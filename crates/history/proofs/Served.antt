@@ -1,9 +1,9 @@
 -- A table without ACA, as a list of tasks: a command comes in, and the named task ends.
+use Rattle.std.specs.Prelude.{Some, None}
 use Prim.Native.Nat.{ℕ, ◌<◌}
 use mathlib.Core.Bool.{Bool, true, false, ◌&&◌, ◌||◌, not, and-false as and_off}
 use mathlib.Core.Path.{◌≡◌, refl, sym, ◌∙◌}
 use mathlib.Core.List.{List, [], ◌∷◌, ◌++◌, map, append-nil, map-append}
-use mathlib.Core.Option.{some}
 use native.Mathlib.Omega.{arith}
 use lib.Dec.{ltb}
 use lib.ListN.{length, replicate}
@@ -11,7 +11,7 @@ use borrow.Author.Tests.{lt-ltb, lt-leb, eq-eqb, not-true}
 use Rattle.laws.specs.Lists.{any, first}
 use Rattle.laws.proofs.Bools.{and-true, or-false, cases, eqb_sym}
 use Rattle.laws.proofs.Lists.{any_suffix, first_any}
-use Rattle.rules.specs.Types.{Attribute, HeadOfQueue, TaskState, Enabled, Task, Known, Entry, Completion, Good, Policy, Clear, Done, Fate, Changes, OneTask, Nobody}
+use Rattle.rules.specs.Types.{Attribute, HeadOfQueue, TaskState, Enabled, Task, Entry, Completion, Good, Policy, Done, Fate, Changes, OneTask, Nobody}
 use Rattle.values.specs.Headers.{lasting_with, fresh_header, run_after}
 use Rattle.rules.specs.Tasks.{places, nexuses, is_head, is_aca, same, with_state, settle_from, enabled_head, whose_turn}
 use Rattle.rules.specs.Bits.{no_pending, after_power_on}
@@ -33,7 +33,7 @@ task n g x = record { nexus = n; attribute = x; state = Enabled; naca = false; t
 abbrev pub table : Policy → ℕ → List Task → State
 table p run ts =
     record {
-      header = lasting_with (fresh_header p) (length (settle_from [] ts)) Clear run;
+      header = lasting_with (fresh_header p) (length (settle_from [] ts)) None run;
       pending = replicate nexuses (after_power_on no_pending);
       tasks = settle_from [] ts;
     }
@@ -41,9 +41,9 @@ table p run ts =
 -- Who is named -----------------------------------------------------------------------------------------------------------------------------
 
 -- the oldest, if it is HEAD OF QUEUE
-pub names_head : (run n g : ℕ) (ts : List Task) → whose_turn Clear run (settle_from [] (task n g HeadOfQueue ∷ ts)) ≡ some (task n g HeadOfQueue)
+pub names_head : (run n g : ℕ) (ts : List Task) → whose_turn None run (settle_from [] (task n g HeadOfQueue ∷ ts)) ≡ Some (task n g HeadOfQueue)
 unfolding whose_turn
-names_head run n g ts = cases (λ o. o ≡ some (task n g HeadOfQueue)) (ltb run 4 || _) (λ e. refl) (λ e. refl)
+names_head run n g ts = cases (λ o. o ≡ Some (task n g HeadOfQueue)) (ltb run 4 || _) (λ e. refl) (λ e. refl)
 
 none_enabled : (older : List Attribute) (ts : List Task) → any head_task ts ≡ false → any enabled_head (settle_from older ts) ≡ false
 none_enabled older [] e = refl
@@ -53,7 +53,7 @@ none_enabled older (t ∷ ts) e =
 -- or if it is none, after four that are, or where none of those is younger
 pub names_other :
     (run n g : ℕ) (x : Attribute) (ts : List Task) → is_aca x ≡ false → is_head x ≡ false → ltb run 4 && any head_task ts ≡ false
-    → whose_turn Clear run (settle_from [] (task n g x ∷ ts)) ≡ some (task n g x)
+    → whose_turn None run (settle_from [] (task n g x ∷ ts)) ≡ Some (task n g x)
 unfolding whose_turn
 names_other run n g x ts a h e = rw (h, head_or_plain x a h, no_other_turn (ltb run 4) (x ∷ []) ts e)
   where
@@ -65,7 +65,7 @@ names_other run n g x ts a h e = rw (h, head_or_plain x a h, no_other_turn (ltb 
 
 first_head :
     (older : List Attribute) (pre : List Task) (n g : ℕ) (post : List Task) → any head_task pre ≡ false
-    → first enabled_head (settle_from older (pre ++ task n g HeadOfQueue ∷ post)) ≡ some (task n g HeadOfQueue)
+    → first enabled_head (settle_from older (pre ++ task n g HeadOfQueue ∷ post)) ≡ Some (task n g HeadOfQueue)
 first_head older [] n g post e = rw (head_free older)
 first_head older (t ∷ ts) n g post e =
     let o = or-false (head_task t) (any head_task ts) e in
@@ -74,7 +74,7 @@ first_head older (t ∷ ts) n g post e =
 -- before that the oldest HEAD OF QUEUE one
 pub names_first :
     (run : ℕ) (pre : List Task) (n g : ℕ) (post : List Task) → run < 4 → any head_task pre ≡ false
-    → whose_turn Clear run (settle_from [] (pre ++ task n g HeadOfQueue ∷ post)) ≡ some (task n g HeadOfQueue)
+    → whose_turn None run (settle_from [] (pre ++ task n g HeadOfQueue ∷ post)) ≡ Some (task n g HeadOfQueue)
 unfolding whose_turn
 names_first run pre n g post l e =
     let f = first_head [] pre n g post e in
@@ -120,15 +120,15 @@ settle_kept fate ts us blind =
       map-append unstated (kept (map fate ts) ts) us,
       map_kept unstated (map fate (settle_from [] ts)) (settle_from [] ts),
       map_kept unstated (map fate ts) ts,
-      map_restate fate blind Clear Clear ts,
-      map_restate unstated (λ t st. refl) Clear Clear ts,
+      map_restate fate blind None None ts,
+      map_restate unstated (λ t st. refl) None None ts,
     )
 
 -- A command comes in -----------------------------------------------------------------------------------------------------------------------
 
 module _ (p : Policy) (run : ℕ) (ts : List Task) (n g : ℕ) (x : Attribute) where
   abbrev entry : Entry
-  entry = record { nexus = n; asked = Known x; naca = false; exempt = true; tag = g }
+  entry = record { nexus = n; asked = Some x; naca = false; exempt = true; tag = g }
 
   pub comes_by :
       ltb n nexuses ≡ true → is_aca x ≡ false → any (same n g) ts ≡ false → length ts < places
@@ -137,10 +137,10 @@ module _ (p : Policy) (run : ℕ) (ts : List Task) (n g : ℕ) (x : Attribute) w
   comes_by l a f m =
       rw (
         l,
-        any_restate (same n g) (λ t st. refl) Clear Clear ts,
+        any_restate (same n g) (λ t st. refl) None None ts,
         f,
         a,
-        lt-leb places (length (settle_from [] ts)) (omega (arith, length_restate Clear Clear ts)),
+        lt-leb places (length (settle_from [] ts)) (omega (arith, length_restate None None ts)),
       )
 
   pub table_comes :
@@ -153,14 +153,14 @@ module _ (p : Policy) (run : ℕ) (ts : List Task) (n g : ℕ) (x : Attribute) w
 module _
     (p : Policy) (run : ℕ) (pre : List Task) (u : Task) (post : List Task) (apart : distinct (settle_from [] (pre ++ u ∷ post)) ≡ true) where
   pub goes_by :
-      whose_turn Clear run (settle_from [] (pre ++ u ∷ post)) ≡ some (with_state u Enabled) → ltb u.nexus nexuses ≡ true
+      whose_turn None run (settle_from [] (pre ++ u ∷ post)) ≡ Some (with_state u Enabled) → ltb u.nexus nexuses ≡ true
       → ruling (table p run (pre ++ u ∷ post)) (Completion u.nexus u.tag Good)
       ≡ Changes Done (finish (table p run (pre ++ u ∷ post)).header Good (with_state u Enabled) true)
   unfolding ruling rule_for complete
   goes_by m l =
       rw (
         l,
-        named_found Clear run u.nexus u.tag (settle_from [] (pre ++ u ∷ post)) (with_state u Enabled) apart m
+        named_found None run u.nexus u.tag (settle_from [] (pre ++ u ∷ post)) (with_state u Enabled) apart m
             (rw (eq-eqb u.nexus u.nexus refl, eq-eqb u.tag u.tag refl)),
         m,
         eq-eqb u.nexus u.nexus refl,
@@ -174,6 +174,6 @@ module _
   table_goes =
       rw (
         settle_kept (fate_of (OneTask u.nexus u.tag 0)) (pre ++ u ∷ post) [] (λ t st. refl),
-        kept_others 0 pre u post (sym (distinct_restate Clear Clear (pre ++ u ∷ post)) ∙ apart),
+        kept_others 0 pre u post (sym (distinct_restate None None (pre ++ u ∷ post)) ∙ apart),
         append-nil (pre ++ post),
       )

@@ -1,10 +1,10 @@
 -- The waiting bound: demand 3 over the rules, by way of the longest waits there are.
+use Rattle.std.specs.Prelude.{Some}
 use Prim.Native.Nat.{ℕ, ◌+◌, ◌-◌, ◌*◌, ◌/◌, ◌≤◌, ◌<◌, min, max}
 use mathlib.Core.Bool.{Bool, true, false, not}
 use mathlib.Core.Path.{◌≡◌, refl, ap, ◌∙◌}
 use mathlib.Core.List.{List, [], ◌∷◌, ◌++◌, map}
 use mathlib.Core.Logic.{inl, inr}
-use mathlib.Core.Option.{some}
 use native.Mathlib.Omega.{arith}
 use lib.ListN.{length, length-append}
 use borrow.Author.Tests.{lt-ltb}
@@ -88,7 +88,7 @@ run_after_plain HeadOfQueue run e = not_both e refl
 run_after_plain Ordered run e = refl
 run_after_plain Aca run e = not_both e refl
 
-first_there : {A : Type 0} (p : A → Bool) (xs : List A) (y : A) → first p xs ≡ some y → 1 ≤ length xs
+first_there : {A : Type 0} (p : A → Bool) (xs : List A) (y : A) → first p xs ≡ Some y → 1 ≤ length xs
 first_there p [] y e = none_some y e
 first_there p (x ∷ xs) y e = omega arith
 

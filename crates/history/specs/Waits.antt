@@ -18,9 +18,9 @@
 --                            next is not there; if that is one of the others, those of all HEAD OF QUEUE tasks that are left
 --   worst_before head a b  := the events of a worst case before the task itself: nexus 1 has a HEAD OF QUEUE tasks then, nexus 0 has b SIMPLE ones
 --   worst_since head a b   := the events behind it
-use Rattle.std.specs.Prelude.{ℕ, zero, suc, ◌+◌, ◌-◌, ◌*◌, ◌/◌, ◌≤◌, min, max, Bool, true, false, cond, not, ◌≡◌, List, [], ◌∷◌, ◌++◌, ltb, length}
+use Rattle.std.specs.Prelude.{ℕ, zero, suc, ◌+◌, ◌-◌, ◌*◌, ◌/◌, ◌≤◌, min, max, Bool, true, false, cond, not, ◌≡◌, List, [], ◌∷◌, ◌++◌, ltb, length, Some}
 use Rattle.laws.specs.Lists.{count}
-use Rattle.rules.specs.Types.{Attribute, Simple, HeadOfQueue, Task, Known, Event, Command, Completion, Good, Policy, Named}
+use Rattle.rules.specs.Types.{Attribute, Simple, HeadOfQueue, Task, Event, Command, Completion, Good, Policy, Named}
 use Rattle.rules.specs.Tasks.{places, is_head}
 use Rattle.history.specs.History.{advance, play, after, accepted, has_ended, turns}
 
@@ -63,7 +63,7 @@ itself = record { nexus = 2; tag = 0 }
 
 -- RULES 23.9: exempt, so that no pending bit stands in its way
 abbrev pub exempt_command : ℕ → ℕ → Attribute → Event
-exempt_command n g x = Command (record { nexus = n; asked = Known x; naca = false; exempt = true; tag = g })
+exempt_command n g x = Command (record { nexus = n; asked = Some x; naca = false; exempt = true; tag = g })
 
 -- RULES 23.9: a row of tasks of one nexus
 abbrev pub commands_of : ℕ → Attribute → ℕ → List Event

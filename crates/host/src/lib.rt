@@ -1,7 +1,7 @@
 // What the programs ask of the system: their arguments, and a line on standard error for a call of it that failed.
 #![tactic(auto)]
 
-ghost use Rattle.std.specs.Prelude.{◌≤◌, length};
+ghost use Rattle.std.specs.Prelude.{◌≤◌, length, IfSome};
 
 use std::env::FillError;
 use std::io;
@@ -10,43 +10,27 @@ use std::rt::Env;
 
 // How many arguments the program was started with, its own name among them.
 pub fn arg_count(rt: &impl Env) -> usize {
-    for i in 0..usize::MAX {
-        if is_missing(rt, i) {
-            return i;
-        }
-    }
-    usize::MAX
+    (0..usize::MAX)
+        .find(|&i| matches!(rt.arg(i, &mut []), Err(FillError::NotPresent)))
+        .unwrap_or(usize::MAX)
 }
 
-fn is_missing(rt: &impl Env, i: usize) -> bool {
-    match rt.arg(i, &mut []) {
-        Err(FillError::NotPresent) => true,
-        _ => false,
-    }
-}
-
-// Puts argument i at the start of the buffer, and says how long it is: 0 where it is missing or longer than the buffer.
-pub fn arg(rt: &impl Env, i: usize, buf: &mut [u8]) -> usize
-    ensures { result ≤ length buf.new }
+// Puts argument i at the start of the buffer, and says how long it is; None where it is missing or longer than the buffer.
+pub fn arg(rt: &impl Env, i: usize, buf: &mut [u8]) -> Option<usize>
+    ensures { IfSome result (λ n. n ≤ length buf.new) }
 {
-    rt.arg(i, buf).unwrap_or(0)
+    rt.arg(i, buf).ok()
 }
 
 // Says in a line on standard error what failed, and why. The system's own words are what stands before the number of the error.
 pub fn fail(rt: &impl Eprint, what: &str, error: io::Error) {
     let mut out = Cursor::new([0u8; 512]);
     let _ = write!(out, "{error}");
-    let n = out.position();
+    let end = (out.position() as usize).min(512);
     let text = out.into_inner();
-    say(rt, what, &text, n);
-}
-
-fn say(rt: &impl Eprint, what: &str, text: &[u8], n: u64) {
-    let end = text.len().min(n as usize);
     let said = str::from_utf8(&text[..end]).unwrap_or("");
-    let why = match said.split_once(" (os error ") {
-        Some((words, _)) => words,
-        None => said,
-    };
+    let why = said
+        .split_once(" (os error ")
+        .map_or(said, |(words, _)| words);
     let _ = eprintln!(rt; "{what}: {why}");
 }

@@ -1,18 +1,21 @@
 -- The keys in their array: noted, held against each other four by four, and spare behind the last.
 use Prim.Native.Nat.{ℕ, zero, suc, ◌+◌, ◌-◌, ◌≤◌, ◌<◌}
-use mathlib.Core.Bool.{or_assoc, ◌||◌}
+use mathlib.Core.Bool.{Bool, or_assoc, ◌||◌}
 use mathlib.Core.Path.{◌≡◌, refl, ap, ◌∙◌}
 use mathlib.Core.List.{List, [], ◌∷◌, ◌++◌, append_assoc}
+use native.Mathlib.Nat.{add-zero}
 use native.Mathlib.Numerals.{add-one}
 use native.Mathlib.Omega.{arith}
 use borrow.Author.Tests.{ne_eqb, ltb-true, ltb-false}
 use lib.Dec.{eqb, ltb}
 use lib.ListN.{length, get_or, take, drop, set, replicate, get_or-replicate, length-take, drop_of_length-le, get_or-append}
 use lib.Seq.{drop-set-lt, take-suc-set, slice, slice-cons, get_or-drop, get_or-append-add}
+use Rattle.std.specs.List.{list_any}
 use Rattle.laws.specs.Lists.{any}
-use Rattle.laws.proofs.Bools.{split}
+use Rattle.laws.proofs.Bools.{split, eqb_sym}
 use Rattle.octets.specs.Sizes.{nexus_offset}
 use Rattle.octets.proofs.Tags.{tag_low}
+use Rattle.octets.proofs.Widths.{record_bytes}
 use Rattle.rules.specs.Tasks.{places}
 use Rattle.records.specs.Records.{task_size}
 use Rattle.records.specs.Tables.{Bytes}
@@ -69,13 +72,37 @@ module _ (ks : List ℕ) (n k : ℕ) (long : length ks ≡ 68) (few : n ≤ plac
       let past = ltb-false j n e in
       rw (slice_past ks j n past, slice_past ks (j + 1) n (omega arith), ne_eqb k (get_or ks j 0) (λ q. omega (arith, s.spare j past h))))
 
-  pub four :
+  listed : (j : ℕ) → j + 4 ≤ 68 → take 4 (drop j ks) ≡ get_or ks j 0 ∷ get_or ks (j + 1) 0 ∷ get_or ks (j + 2) 0 ∷ get_or ks (j + 3) 0 ∷ []
+  listed j h = rw add-zero at (record_bytes 4 ks j (omega arith))
+
+  four :
       (j : ℕ) → j < n
-      → any (eqb k) (slice j n ks)
-      ≡ any (eqb k) (get_or ks j 0 ∷ get_or ks (j + 1) 0 ∷ get_or ks (j + 2) 0 ∷ get_or ks (j + 3) 0 ∷ []) || any (eqb k) (slice (j + 4) n ks)
+      → any (eqb k) (slice j n ks) ≡ list_any (λ (y : ℕ). eqb y k) (take (j + 4 - j) (drop j ks)) || any (eqb k) (slice (j + 4) n ks)
   four j h =
+      let w : j + 4 - j ≡ 4 = omega arith in
       let p : j + 1 + 1 ≡ j + 2 = omega arith in
       let q : j + 2 + 1 ≡ j + 3 = omega arith in
       let r : j + 3 + 1 ≡ j + 4 = omega arith in
-      rw (one j (omega arith), one (j + 1) (omega arith), p, one (j + 2) (omega arith), q, one (j + 3) (omega arith), r)
+      rw (
+        w,
+        listed j (omega arith),
+        one j (omega arith),
+        one (j + 1) (omega arith),
+        p,
+        one (j + 2) (omega arith),
+        q,
+        one (j + 3) (omega arith),
+        r,
+        eqb_sym k (get_or ks j 0),
+        eqb_sym k (get_or ks (j + 1) 0),
+        eqb_sym k (get_or ks (j + 2) 0),
+        eqb_sym k (get_or ks (j + 3) 0),
+      )
       (simp or_assoc)
+
+-- where b says whether k is among the four at j
+pub four_held :
+    (ks : List ℕ) (n k : ℕ) (b : Bool) → length ks ≡ 68 → n ≤ places → Spared ks n → k < spare_key
+    → (j : ℕ) → j < n → b ≡ list_any (λ (y : ℕ). eqb y k) (take (j + 4 - j) (drop j ks))
+    → any (eqb k) (slice j n ks) ≡ b || any (eqb k) (slice (j + 4) n ks)
+four_held ks n k b long few s low j h e = rw e (four ks n k long few s low j h)

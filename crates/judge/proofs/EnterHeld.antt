@@ -1,22 +1,22 @@
 -- Check 2 at entry, as code asks it.
+use Rattle.std.specs.Prelude.{Some, None}
 use mathlib.Core.Bool.{Bool, true, false, cond, ◌||◌, ◌&&◌, not}
 use mathlib.Core.Path.{◌≡◌, refl}
-use mathlib.Core.Option.{some}
 use lib.Dec.{eqb}
 use Rattle.rules.specs.Rules.{only_if, ended_with, asks_aca, check2, enter}
-use Rattle.rules.specs.Types.{Entry, Allegiance, Clear, Faulted, Header, Pending, Keeps}
+use Rattle.rules.specs.Types.{Entry, Allegiance, Header, Pending, Keeps}
 use Rattle.parts.specs.CheckTwo.{held_off, held_status}
 use Rattle.judge.specs.LastChecks.{checks_past_aca}
 
 check2_is :
     (aca : Allegiance) (c : Entry) (has : Bool)
     → check2 aca c has ≡ only_if (held_off aca c.nexus (asks_aca c.asked) has) (Keeps (ended_with (held_status aca c.nexus c.naca)))
-check2_is Clear c has = refl
-check2_is (Faulted f) c has = go (eqb c.nexus f) (asks_aca c.asked) c.naca
+check2_is None c has = refl
+check2_is (Some f) c has = go (eqb c.nexus f) (asks_aca c.asked) c.naca
   where
     go :
         (own asks naca : Bool)
-        → cond own (only_if (not (asks && not has)) (Keeps (ended_with 0x30))) (some (Keeps (ended_with (cond naca 0x30 0x08))))
+        → cond own (only_if (not (asks && not has)) (Keeps (ended_with 0x30))) (Some (Keeps (ended_with (cond naca 0x30 0x08))))
         ≡ only_if (not (own && asks && not has)) (Keeps (ended_with (cond (own || naca) 0x30 0x08)))
     go true true naca = refl
     go true false naca = refl

@@ -6,21 +6,21 @@ ghost use Rattle.judge.specs.LastChecks.{last_checks, checks_past_aca};
 
 use decide::pending::sense_for;
 use parts::{
-    aca_if, asks_aca, attribute_of, bad_attribute, bit_if, held_off, held_status, is_clear,
-    is_full, tell, tells_others,
+    asks_aca, attribute_of, bad_attribute, bit_if, held_off, held_status, is_full, tell,
+    tells_others,
 };
 use values::{
-    Allegiance, Answer, Change, Entry, Header, Joins, Notice, Pending, Policy, Qerr, Ruling, Sense,
-    Sweep, Task, TaskState, Top,
+    Answer, Bit, CHECK_CONDITION, Change, Entry, Header, Notice, Pending, Policy, Qerr, Ruling,
+    Sense, Sweep, TASK_SET_FULL, Task, TaskState,
 };
 
 fn sense(key: u8, code: u8, qualifier: u8) -> Sense
     ensures { result ≡ Rattle.rules.specs.Rules.sense key code qualifier }
 {
     Sense {
-        key: key,
-        code: code,
-        qualifier: qualifier,
+        key,
+        code,
+        qualifier,
     }
 }
 
@@ -33,42 +33,38 @@ fn ended_with(status: u8) -> Answer
 fn by_qerr_if(applies: bool, p: Policy, n: u8, w: Sweep) -> Sweep
     ensures { result ≡ cond applies (also_by_qerr p.qerr p n w) w }
 {
-    let qerr = p.qerr;
-    if applies {
-        match qerr {
-            Qerr::EndNone => w,
-            Qerr::EndAll => Sweep::ClearedBy(n, p),
-            Qerr::EndNexus => Sweep::NexusTasks(n),
-        }
-    } else {
-        w
+    match p.qerr {
+        Qerr::EndAll if applies => Sweep::ClearedBy(n, p),
+        Qerr::EndNexus if applies => Sweep::NexusTasks(n),
+        _ => w,
     }
 }
 
 // What checks 1, 3 and 4 do to the set. Each writes its answer itself: by a function an event takes some 30 instructions more at 3 tasks.
-fn failed(h: Header, c: Entry, w: Sweep, top: Top) -> Change
+fn failed(h: Header, c: Entry, w: Sweep, top: Option<Bit>) -> Change
     ensures { result ≡ failing h.aca h c w top }
 {
-    let policy = h.policy;
-    let qerr = policy.qerr;
-    let aca = h.aca;
+    let applies = h.aca.is_none();
     let naca = c.naca;
-    let applies = is_clear(aca);
     Change {
-        sweep: by_qerr_if(applies, policy, c.nexus, w),
-        joins: Joins::NoTask,
-        header: h.with_aca(aca_if(applies & naca, Allegiance::Faulted(c.nexus), aca)),
-        notice: tell(c.nexus, top, applies & tells_others(qerr, policy.tas)),
+        sweep: by_qerr_if(applies, h.policy, c.nexus, w),
+        joins: None,
+        header: h.with_aca(if applies & naca { Some(c.nexus) } else { h.aca }),
+        notice: tell(
+            c.nexus,
+            top,
+            applies & tells_others(h.policy.qerr, h.policy.tas),
+        ),
     }
 }
 
+#[tactic(auto, unfolding(rules::specs::Rules::new_task))]
 fn new_task(c: Entry) -> Task
     ensures { result ≡ new_task c }
 {
-    let asked = c.asked;
     Task {
         nexus: c.nexus,
-        attribute: attribute_of(asked),
+        attribute: attribute_of(c.asked),
         state: TaskState::Enabled,
         naca: c.naca,
         tag: c.tag,
@@ -80,41 +76,41 @@ fn accepted(h: Header, c: Entry) -> Change
 {
     Change {
         sweep: Sweep::Nobody,
-        joins: Joins::NewTask(new_task(c)),
+        joins: Some(new_task(c)),
         header: h,
         notice: Notice::Quiet,
     }
 }
 
 // Checks 4 to 6.
+#[tactic(auto, unfolding(crate::specs::LastChecks::last_checks))]
 fn last_checks(h: Header, c: Entry) -> Ruling
     ensures { result ≡ last_checks h c }
 {
-    let aca = h.aca;
-    let asked = c.asked;
-    if bad_attribute(aca, asked) {
+    if bad_attribute(h.aca, c.asked) {
         return Ruling::Changes(
-            Answer::EndedAtEntry(0x02, sense(0x5, 0x49, 0x00)),
-            failed(h, c, Sweep::Nobody, Top::NoBit),
+            Answer::EndedAtEntry(CHECK_CONDITION, sense(0x5, 0x49, 0x00)),
+            failed(h, c, Sweep::Nobody, None),
         );
     }
     if is_full(h) {
-        return Ruling::Keeps(ended_with(0x28));
+        return Ruling::Keeps(ended_with(TASK_SET_FULL));
     }
     Ruling::Changes(Answer::Done, accepted(h, c))
 }
 
 // Checks 3 to 6.
+#[tactic(auto, unfolding(crate::specs::LastChecks::last_checks, crate::specs::LastChecks::checks_past_aca))]
 fn checks_past_aca(h: Header, c: Entry, p: Pending) -> Ruling
     ensures { result ≡ checks_past_aca h c p }
 {
     let top = bit_if(c.exempt, p);
     match top {
-        Top::Highest(b) => Ruling::Changes(
-            Answer::EndedAtEntry(0x02, sense_for(b)),
+        Some(b) => Ruling::Changes(
+            Answer::EndedAtEntry(CHECK_CONDITION, sense_for(b)),
             failed(h, c, Sweep::Nobody, top),
         ),
-        Top::NoBit => last_checks(h, c),
+        None => last_checks(h, c),
     }
 }
 
@@ -122,16 +118,14 @@ fn checks_past_aca(h: Header, c: Entry, p: Pending) -> Ruling
 pub fn enter(h: Header, c: Entry, here: bool, has_aca: bool, p: Pending) -> Ruling
     ensures { result ≡ Rattle.rules.specs.Rules.enter h c here has_aca p }
 {
-    let aca = h.aca;
-    let asked = c.asked;
     if here {
         return Ruling::Changes(
-            Answer::EndedAtEntry(0x02, sense(0xB, 0x4E, 0x00)),
-            failed(h, c, Sweep::NexusTasks(c.nexus), Top::NoBit),
+            Answer::EndedAtEntry(CHECK_CONDITION, sense(0xB, 0x4E, 0x00)),
+            failed(h, c, Sweep::NexusTasks(c.nexus), None),
         );
     }
-    if held_off(aca, c.nexus, asks_aca(asked), has_aca) {
-        return Ruling::Keeps(ended_with(held_status(aca, c.nexus, c.naca)));
+    if held_off(h.aca, c.nexus, asks_aca(c.asked), has_aca) {
+        return Ruling::Keeps(ended_with(held_status(h.aca, c.nexus, c.naca)));
     }
     checks_past_aca(h, c, p)
 }

@@ -1,8 +1,8 @@
 -- Laws of tests.
+use Rattle.std.specs.Prelude.{Some, None, Option}
 use Prim.Native.Nat.{ℕ, suc, ◌+◌}
 use mathlib.Core.Bool.{Bool, true, false, cond, ◌||◌, ◌&&◌, not, false≢true}
 use mathlib.Core.Path.{◌≡◌, refl, sym, ◌∙◌}
-use mathlib.Core.Option.{Option, none, some}
 use native.Mathlib.Omega.{arith}
 use lib.Dec.{eqb, ltb}
 use borrow.Author.Tests.{eqb-true, eqb-false, eq-eqb, ne_eqb, ltb-true, ltb-false}
@@ -47,10 +47,10 @@ one_both false = refl
 
 -- Options --------------------------------------------------------------------------------------------------------------------------------
 
-pub none_some : {A : Type 0} {P : Type 0} (q : A) → ◌≡◌ {A = Option A} none (some q) → P
+pub none_some : {A : Type 0} {P : Type 0} (q : A) → ◌≡◌ {A = Option A} None (Some q) → P
 none_some q e = absurd (let z : ◌≡◌ {A = ℕ} 0 1 = cc in omega arith)
 
-pub some_is : {A : Type 0} (P : A → Type 0) (r q : A) → some r ≡ some q → P r → P q
+pub some_is : {A : Type 0} (P : A → Type 0) (r q : A) → Some r ≡ Some q → P r → P q
 some_is P r q e p = let z : r ≡ q = cc in rw z at p
 
 -- Numbers --------------------------------------------------------------------------------------------------------------------------------

@@ -1,9 +1,9 @@
 -- Laws of `any`, `count`, `first`, `passing` and `map`.
+use Rattle.std.specs.Prelude.{Some, None}
 use Prim.Native.Nat.{◌+◌}
 use mathlib.Core.Bool.{Bool, true, false, cond, not, or-true as or_on}
 use mathlib.Core.Path.{◌≡◌, refl, ap, sym}
 use mathlib.Core.List.{List, [], ◌∷◌, ◌++◌, map}
-use mathlib.Core.Option.{none, some}
 use native.Mathlib.Omega.{arith}
 use lib.ListN.{length}
 use Rattle.laws.specs.Lists.{any, count, first, passing}
@@ -40,32 +40,32 @@ module _ {A : Type 0} where
 
   -- the first that passes, found at the head or further on
   pub first_cases {ℓ} :
-      {P : Type ℓ} (p : A → Bool) (x : A) (xs : List A) (y : A) → first p (x ∷ xs) ≡ some y
-      → (p x ≡ true → x ≡ y → P) → (p x ≡ false → first p xs ≡ some y → P) → P
+      {P : Type ℓ} (p : A → Bool) (x : A) (xs : List A) (y : A) → first p (x ∷ xs) ≡ Some y
+      → (p x ≡ true → x ≡ y → P) → (p x ≡ false → first p xs ≡ Some y → P) → P
   first_cases {P = P} p x xs y e f g = go (p x) refl e
     where
-      go : (b : Bool) → p x ≡ b → cond b (some x) (first p xs) ≡ some y → P
+      go : (b : Bool) → p x ≡ b → cond b (Some x) (first p xs) ≡ Some y → P
       go true q h = f q (cc)
       go false q h = g q h
 
-  pub first_passes : (p : A → Bool) (xs : List A) (y : A) → first p xs ≡ some y → p y ≡ true
+  pub first_passes : (p : A → Bool) (xs : List A) (y : A) → first p xs ≡ Some y → p y ≡ true
   first_passes p [] y e = cc
   first_passes p (x ∷ xs) y e = first_cases p x xs y e (λ h q. rw q at h) (λ h q. first_passes p xs y q)
 
   -- what is found is there
-  pub first_any : (p q : A → Bool) (xs : List A) (y : A) → first p xs ≡ some y → q y ≡ true → any q xs ≡ true
+  pub first_any : (p q : A → Bool) (xs : List A) (y : A) → first p xs ≡ Some y → q y ≡ true → any q xs ≡ true
   first_any p q [] y e h = none_some y e
   first_any p q (x ∷ xs) y e h =
       first_cases p x xs y e (λ a b. rw (b, h)) (λ a b. rw (first_any p q xs y b h) (or_on (q x)))
 
   -- none that passes is found: there is none
-  pub first_none : (p : A → Bool) (xs : List A) → first p xs ≡ none → any p xs ≡ false
+  pub first_none : (p : A → Bool) (xs : List A) → first p xs ≡ None → any p xs ≡ false
   first_none p [] e = refl
   first_none p (x ∷ xs) e = split (p x) (λ h. none_some x (sym (rw h at e))) (λ h. rw h (first_none p xs (rw h at e)))
 
   -- what is found stands in the list
   pub first_stands :
-      (p : A → Bool) (xs : List A) (y : A) → first p xs ≡ some y
+      (p : A → Bool) (xs : List A) (y : A) → first p xs ≡ Some y
       → (before : List A) × (behind : List A) × (xs ≡ before ++ (y ∷ behind))
   first_stands p [] y e = none_some y e
   first_stands p (x ∷ xs) y e =
@@ -73,8 +73,8 @@ module _ {A : Type 0} where
       (λ a b. let r = first_stands p xs y b in (x ∷ r.0, r.1, ap {B = List A} (λ l. x ∷ l) r.2))
 
   pub first_append :
-      {P : Type 0} (p : A → Bool) (xs ys : List A) (y : A) → first p (xs ++ ys) ≡ some y
-      → (first p xs ≡ some y → P) → (any p xs ≡ false → first p ys ≡ some y → P) → P
+      {P : Type 0} (p : A → Bool) (xs ys : List A) (y : A) → first p (xs ++ ys) ≡ Some y
+      → (first p xs ≡ Some y → P) → (any p xs ≡ false → first p ys ≡ Some y → P) → P
   first_append p [] ys y h f g = g refl h
   first_append p (x ∷ xs) ys y h f g =
       first_cases p x (xs ++ ys) y h (λ a b. f (rw (a, b)))

@@ -6,8 +6,7 @@
 --   count p xs      := how many elements of xs pass p
 --   first p xs      := the first element of xs that passes p, or none
 --   passing p xs    := the elements of xs that pass p, in their order
-use Rattle.std.specs.Prelude.{ℕ, ◌+◌, Bool, true, false, cond, ◌||◌, List, [], ◌∷◌}
-use Rattle.std.proofs.Math.Option.{Option, none, some}
+use Rattle.std.specs.Prelude.{ℕ, ◌+◌, Bool, true, false, cond, ◌||◌, List, [], ◌∷◌, Option, Some, None}
 
 abbrev pub one_if : Bool → ℕ
 one_if true = 1
@@ -27,8 +26,8 @@ module _ {A : Type 0} where
   count p (x ∷ xs) = one_if (p x) + count p xs
 
   abbrev pub first : (A → Bool) → List A → Option A
-  first p [] = none
-  first p (x ∷ xs) = cond (p x) (some x) (first p xs)
+  first p [] = None
+  first p (x ∷ xs) = cond (p x) (Some x) (first p xs)
 
   abbrev pub passing : (A → Bool) → List A → List A
   passing p [] = []

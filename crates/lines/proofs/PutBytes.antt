@@ -1,38 +1,37 @@
 -- Bytes put one behind the other.
-use Prim.Native.Nat.{ℕ, ◌+◌, ◌<◌, ◌≤◌, ◌/◌}
-use native.Mathlib.Numerals.{add-one}
+use Prim.Native.Nat.{ℕ, ◌<◌, ◌≤◌, ◌/◌, ◌%◌}
 use native.Mathlib.Omega.{arith}
-use mathlib.Core.Path.{◌≡◌, refl, ◌∙◌}
+use mathlib.Core.Path.{◌≡◌, ◌∙◌}
 use mathlib.Core.List.{List, [], ◌∷◌, ◌++◌, append_assoc}
+use mathlib.Core.Logic.{◌⊎◌, inl, inr}
 use borrow.Author.Tests.{lt-ltb, le-ltb}
-use lib.ListN.{length, take, set, length-set, length-append}
-use lib.Seq.{take-suc-set}
+use lib.ListN.{take, length-append}
 use Rattle.numbers.specs.declared.Answered.{Answered}
-use Rattle.lines.specs.Lines.{digit, units, tens, decimal, hex, line, Written}
+use Rattle.lines.specs.declared.Writer.{Writer}
+use Rattle.lines.specs.Lines.{digit, units, decimal, hex, line, Puts}
 
-pub put_byte : (b : List ℕ) (at v : ℕ) → at < length b → Written b at (set b at v) (at + 1) (v ∷ [])
-put_byte b at v h = record { long = length-set b at v; ends = refl; text = rw add-one (take-suc-set b at v h) }
-
-pub put_both :
-    {a b c : List ℕ} {i j k : ℕ} {x y : List ℕ} → Written a i b j x → Written b j c k y → Written a i c k (x ++ y)
-put_both {a} {b} {c} {i} {j} {k} {x} {y} w v =
+pub put_both : {a b c : Writer} {x y : List ℕ} → Puts a b x → Puts b c y → Puts a c (x ++ y)
+put_both {a} {b} {c} {x} {y} v w =
     record {
-      long = v.long ∙ w.long;
-      ends = rw (length-append x y) (omega (arith, w.ends, v.ends));
-      text = v.text ∙ rw w.text (append_assoc (take i a) x y);
+      written =
+          record {
+            long = w.written.long ∙ v.written.long;
+            ends = rw (length-append x y) (omega (arith, v.written.ends, w.written.ends));
+            text = w.written.text ∙ rw v.written.text (append_assoc (take a.at a.buffer.now) x y);
+          };
+      same = w.same ∙ v.same;
     }
 
-pub decimal_one : (n : ℕ) → n < 10 → decimal n ≡ units n
+-- decimals, of one digit and of more; the hundreds are put only where there are any
+pub put_digit : {w w' : Writer} (n : ℕ) → n < 10 → Puts w w' (digit n ∷ []) → Puts w w' (decimal n)
 unfolding decimal
-decimal_one n h = rw (lt-ltb n 10 h)
+put_digit n h p = let e : n % 10 ≡ n = omega arith in rw (lt-ltb n 10 h, e) p
 
-pub decimal_two : (n : ℕ) → 10 ≤ n → n < 100 → decimal n ≡ tens n
+pub put_digits : {w₀ w₁ w₂ w₃ : Writer} (n : ℕ) → 10 ≤ n → ((100 ≤ n) × Puts w₀ w₁ (digit (n / 100) ∷ [])) ⊎ ((n < 100) × (w₀ ≡ w₁))
+    → Puts w₁ w₂ (digit (n / 10 % 10) ∷ []) → Puts w₂ w₃ (units n) → Puts w₀ w₃ (decimal n)
 unfolding decimal
-decimal_two n h l = rw (le-ltb n 10 h, lt-ltb n 100 l)
-
-pub decimal_three : (n : ℕ) → 10 ≤ n → 100 ≤ n → decimal n ≡ digit (n / 100) ∷ tens n
-unfolding decimal
-decimal_three n h l = rw (le-ltb n 10 h, le-ltb n 100 l)
+put_digits n h (inl p) t u = rw (le-ltb n 10 h, le-ltb n 100 p.0) (put_both (put_both p.1 t) u)
+put_digits n h (inr p) t u = rw (le-ltb n 10 h, lt-ltb n 100 p.0, p.1) (put_both t u)
 
 in_order : (a : Answered)
     → (((((((decimal a.answer ++ hex a.status) ++ hex a.key) ++ hex a.code) ++ hex a.qualifier) ++ (32 ∷ [])) ++ decimal a.ended) ++ (10 ∷ []))
@@ -40,10 +39,7 @@ in_order : (a : Answered)
 unfolding line
 in_order a = simp append_assoc
 
-pub put_all :
-    {o₀ o₁ o₂ o₃ o₄ o₅ o₆ o₇ o₈ : List ℕ} {e₀ e₁ e₂ e₃ e₄ e₅ e₆ e₇ e₈ : ℕ} (a : Answered) → Written o₀ e₀ o₁ e₁ (decimal a.answer)
-    → Written o₁ e₁ o₂ e₂ (hex a.status) → Written o₂ e₂ o₃ e₃ (hex a.key) → Written o₃ e₃ o₄ e₄ (hex a.code)
-    → Written o₄ e₄ o₅ e₅ (hex a.qualifier) → Written o₅ e₅ o₆ e₆ (32 ∷ []) → Written o₆ e₆ o₇ e₇ (decimal a.ended)
-    → Written o₇ e₇ o₈ e₈ (10 ∷ []) → Written o₀ e₀ o₈ e₈ (line a)
-put_all a w₁ w₂ w₃ w₄ w₅ w₆ w₇ w₈ =
-    rw (← in_order a) (put_both (put_both (put_both (put_both (put_both (put_both (put_both w₁ w₂) w₃) w₄) w₅) w₆) w₇) w₈)
+pub put_all : {w₀ w₁ w₂ w₃ w₄ w₅ w₆ w₇ w₈ : Writer} (a : Answered) → Puts w₀ w₁ (decimal a.answer) → Puts w₁ w₂ (hex a.status) → Puts w₂ w₃ (hex a.key)
+    → Puts w₃ w₄ (hex a.code) → Puts w₄ w₅ (hex a.qualifier) → Puts w₅ w₆ (32 ∷ []) → Puts w₆ w₇ (decimal a.ended) → Puts w₇ w₈ (10 ∷ []) → Puts w₀ w₈ (line a)
+put_all a p₁ p₂ p₃ p₄ p₅ p₆ p₇ p₈ =
+    rw (← in_order a) (put_both (put_both (put_both (put_both (put_both (put_both (put_both p₁ p₂) p₃) p₄) p₅) p₆) p₇) p₈)

@@ -5,8 +5,10 @@
 --   hex n            := a space, and n below 256 as two hex digits
 --   line a           := the line for what apply answered
 --   Written ..       := `after` holds, up to `end`, what `before` held up to `at`, and then the bytes
+--   Puts w w' bytes  := the writer w has put the bytes, and is w' then
 use Rattle.std.specs.Prelude.{ℕ, ◌+◌, ◌/◌, ◌%◌, ◌≡◌, cond, List, [], ◌∷◌, ◌++◌, ltb, length, take}
 use Rattle.numbers.specs.declared.Answered.{Answered}
+use Rattle.lines.specs.declared.Writer.{Writer}
 
 -- RULES 24.1: hex digits in capitals
 unfoldable pub digit : ℕ → ℕ
@@ -37,3 +39,8 @@ pub record Written (before : List ℕ) (at : ℕ) (after : List ℕ) (end : ℕ)
   pub long : length after ≡ length before
   pub ends : end ≡ at + length bytes
   pub text : take end after ≡ take at before ++ bytes
+
+-- RULES 24.1: and the buffer is the one that was lent
+pub record Puts (w w' : Writer) (bytes : List ℕ) : Type 0 where
+  pub written : Written w.buffer.now w.at w'.buffer.now w'.at bytes
+  pub same : w'.buffer.ghost_name ≡ w.buffer.ghost_name

@@ -1,4 +1,5 @@
 -- The events of a log, cut anywhere.
+use Rattle.std.specs.Prelude.{None}
 use Prim.Native.Nat.{ℕ, zero, suc, ◌+◌, ◌*◌, ◌<◌, ◌≤◌}
 use native.Mathlib.Omega.{arith}
 use mathlib.Core.Path.{◌≡◌, refl, ◌∙◌, ap, sym}
@@ -11,12 +12,11 @@ use Rattle.laws.proofs.Bools.{split}
 use Rattle.rules.specs.Types.{Event}
 use Rattle.records.specs.Records.{event_size}
 use Rattle.records.specs.Events.{event_of, pieces}
-use Rattle.records.specs.declared.events.EventRead.{TheVariants.Unreadable}
 use Rattle.demands.specs.Calls.{read_in}
 use Rattle.tallies.specs.Tally.{events_from, events_of}
 use Rattle.logs.specs.SoFar.{wholes, rest}
 
-short_event : (e : List ℕ) → length e < event_size → event_of e ≡ Unreadable
+short_event : (e : List ℕ) → length e < event_size → event_of e ≡ None
 unfolding event_of
 short_event e h = rw (ne_eqb (length e) event_size (λ q. omega arith)) refl
 

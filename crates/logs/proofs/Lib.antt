@@ -1,4 +1,3 @@
-pub mod Reading
 pub mod Events
 pub mod Stands
 pub mod Onward

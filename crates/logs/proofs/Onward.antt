@@ -6,11 +6,12 @@ use mathlib.Core.List.{List, [], ◌∷◌, ◌++◌}
 use lib.ListN.{length, get_or, take, replicate, length-replicate}
 use lib.Seq.{take_all, take-paste, paste}
 use Rattle.rules.specs.Types.{Event}
-use Rattle.rules.specs.Rulings.{fresh}
+use Rattle.rules.specs.Rulings.{State, fresh}
 use Rattle.rules.proofs.FreshSet.{fresh_tasks}
-use Rattle.rules.proofs.WellKept.{tested_fresh}
+use Rattle.rules.proofs.WellKept.{Tested, tested_fresh}
 use Rattle.records.specs.Numbers.{policy_from}
-use Rattle.records.specs.Tables.{report_size}
+use Rattle.records.specs.Tables.{table_size, report_size, counts_of, table_bytes}
+use Rattle.records.proofs.ReadBack.{length_table}
 use Rattle.history.specs.History.{Past, begin, advance, play, after}
 use Rattle.history.proofs.Advanced.{play_append}
 use Rattle.history.proofs.Reached.{tested_after}
@@ -20,7 +21,8 @@ use Rattle.tallies.specs.Counters.{entry_at, accepted_at, largest_at, left_at, c
 use Rattle.tallies.proofs.Numbered.{length_each, get_d_each, zero_at}
 use Rattle.tallies.proofs.Telling.{tells_same, shows_tells, tells_shows}
 use Rattle.logs.specs.SoFar.{wholes, rest, SoFar}
-use Rattle.logs.specs.Walking.{Standing, standing, walk_over, Ready, TakenAs}
+use Rattle.logs.specs.declared.play.Standing.{Standing}
+use Rattle.logs.specs.Walking.{standing, walk_over, Ready, TakenAs}
 use Rattle.logs.proofs.Events.{events_onward, rest_onward}
 use Rattle.logs.proofs.Stands.{Stands, stands_same, entries_append, largest_append, walk_stands}
 
@@ -41,8 +43,8 @@ highest : (h : Past) (es : List Event) → length (play h es).state.tasks ≤ ma
 highest h [] = omega arith
 highest h (e ∷ es) = omega (arith, highest (advance h e) es)
 
-so_far_stands : (l t r c k : List ℕ) (b : List ℕ) (end : ℕ) → Ready b end t r c → SoFar l t c k → StandsFor l (standing t r c)
-so_far_stands l t r c k b end y f =
+so_far_stands : (l k : List ℕ) (w : Standing) (b : List ℕ) (end : ℕ) → Ready b end w → SoFar l w.table w.counts k → StandsFor l w
+so_far_stands l k w b end y f =
     record {
       tested = tested_after (policy_from 0) (events_of l);
       table = f.table;
@@ -50,7 +52,7 @@ so_far_stands l t r c k b end y f =
       above = omega (arith, highest start (events_of l), ap length (fresh_tasks (policy_from 0)));
       tells =
           tells_same (λ s h. each_status _ s h) (λ s h. each_status _ s h) refl refl refl
-          (shows_tells c (tally_of l) (record { long = y.counts; shown = f.counts }));
+          (shows_tells w.counts (tally_of l) (record { long = y.counts; shown = f.counts }));
     }
 
 stands_so_far : (l k : List ℕ) (w : Standing) → StandsFor l w → k ≡ rest l → SoFar l w.table w.counts k
@@ -77,14 +79,31 @@ pasted_front b s n e =
     let z : n ≡ 0 + n = omega arith in
     ap (λ k. take k (paste b 0 s n)) z ∙ take-paste b 0 s n (omega arith) (omega arith) ∙ take_all n s (omega arith)
 
--- where the log has been l, and the stretch s is read behind what was carried, it has been l and s
-pub goes_on : (l s k b : List ℕ) (end : ℕ) (t r c t' r' c' b' : List ℕ) (n : ℕ) → Ready b end t r c → TakenAs b end t r c t' r' c' b' n → SoFar l t c k
-    → take end b ≡ k ++ s → SoFar (l ++ s) t' c' (take n b')
-goes_on l s k b end t r c t' r' c' b' n y a f e =
-    let bytes : take end b ≡ rest l ++ s = e ∙ ap (λ (z : List ℕ). z ++ s) f.carried in
-    let walked = rw bytes at a.stood in
-    let st : StandsFor (l ++ s) (standing t' r' c') = subst (StandsFor (l ++ s)) (sym walked) (goes l s (standing t r c) (so_far_stands l t r c k b end y f)) in
-    stands_so_far (l ++ s) (take n b') (standing t' r' c') st (ap (take n) a.carried ∙ pasted_front b (rest (take end b)) n a.count ∙ ap rest bytes ∙ sym (rest_onward l s))
+length_table_bytes : (s : State) → Tested s → length (table_bytes s) ≡ table_size
+unfolding table_bytes
+length_table_bytes s w = length_table (counts_of s) s w.eight w.few
+
+-- where the log has been l, and the stretch s is read behind what was carried
+module _ (l s k b : List ℕ) (end : ℕ) (w w' : Standing) (b' : List ℕ) (n : ℕ) (y : Ready b end w) (a : TakenAs b end w w' b' n) (f : SoFar l w.table w.counts k) (e : take end b ≡ k ++ s) where
+  bytes : take end b ≡ rest l ++ s
+  bytes = e ∙ ap (λ (z : List ℕ). z ++ s) f.carried
+
+  stands : StandsFor (l ++ s) w'
+  stands = subst (StandsFor (l ++ s)) (sym (rw bytes at a.stood)) (goes l s w (so_far_stands l k w b end y f))
+
+  -- it has been l and s
+  pub goes_on : SoFar (l ++ s) w'.table w'.counts (take n b')
+  goes_on = stands_so_far (l ++ s) (take n b') w' stands (ap (take n) a.carried ∙ pasted_front b (rest (take end b)) n a.count ∙ ap rest bytes ∙ sym (rest_onward l s))
+
+  -- and can go on
+  pub ready_on : (d : List ℕ) (at : ℕ) → at ≤ length d → Ready d at w'
+  ready_on d at h =
+      record {
+        table = ap length stands.table ∙ length_table_bytes (past_of (l ++ s)).state stands.tested;
+        report = stands.report;
+        counts = stands.tells.long;
+        within = h;
+      }
 
 -- before its first byte
 pub begins : SoFar [] (opened (policy_from 0)) (replicate counters 0) []

@@ -1,4 +1,5 @@
 -- The counters, the table and the history of the events keep step, piece by piece.
+use Rattle.std.specs.Prelude.{Option, Some, None}
 use Prim.Native.Nat.{ℕ, zero, suc, ◌+◌, ◌-◌, ◌*◌, ◌<◌, ◌≤◌, max}
 use native.Mathlib.Omega.{arith}
 use mathlib.Core.Path.{◌≡◌, refl, ◌∙◌, ap, sym}
@@ -23,7 +24,6 @@ use Rattle.rules.proofs.WellKept.{Tested}
 use Rattle.records.specs.Records.{event_size, ended_size, ended_bytes}
 use Rattle.records.specs.Tables.{report_size, count_in, table_bytes, report_bytes}
 use Rattle.records.specs.Events.{event_of}
-use Rattle.records.specs.declared.events.EventRead.{EventRead, TheVariants.Readable, TheVariants.Unreadable}
 use Rattle.records.proofs.ReadBack.{written_count, length_joined}
 use Rattle.history.specs.History.{Past, advance, play, accepted, is_done}
 use Rattle.history.proofs.Advanced.{advance_state, advance_roll, advance_log, play_append}
@@ -41,7 +41,8 @@ use Rattle.demands.proofs.Entered.{enters_rule}
 use Rattle.demands.proofs.Refused.{demand1}
 use Rattle.tallies.specs.Tally.{statuses, events_from, ends_with, has_status, entries_with, largest_over}
 use Rattle.tallies.proofs.Telling.{Tells, tells_same, event_step}
-use Rattle.logs.specs.Walking.{Standing, counted, count_piece, walk_over}
+use Rattle.logs.specs.declared.play.Standing.{Standing}
+use Rattle.logs.specs.Walking.{counted, count_piece, walk_over}
 
 -- One event --------------------------------------------------------------------------------------------------------------------------------
 
@@ -65,12 +66,12 @@ one : (b : Bool) (t : Task) → length (cond b (t ∷ []) []) ≡ one_if b
 one true t = refl
 one false t = refl
 
-accepted_one : (s : State) (e : List ℕ) (v : Event) → event_of e ≡ Readable v
+accepted_one : (s : State) (e : List ℕ) (v : Event) → event_of e ≡ Some v
     → length (accepted s v) ≡ one_if (eqb (kind_of e) 1 && eqb (number_of (answer s v)) 0)
 accepted_one s e v q =
-    ap (length {A = Task}) (enters_rule s v) ∙ rw (done_number (answer s v)) (go v (is_done (answer s v)) (event_reads e (Readable v) q))
+    ap (length {A = Task}) (enters_rule s v) ∙ rw (done_number (answer s v)) (go v (is_done (answer s v)) (event_reads e (Some v) q))
   where
-    go : (v : Event) (d : Bool) → Reads (Readable v) e → length (cond d (command_task (Readable v)) []) ≡ one_if (eqb (kind_of e) 1 && d)
+    go : (v : Event) (d : Bool) → Reads (Some v) e → length (cond d (command_task (Some v)) []) ≡ one_if (eqb (kind_of e) 1 && d)
     go (Command c) d k = rw k.0 (one d _)
     go (Completion n g f) d k = rw k.0 (none d)
     go (Management n f) d k = rw k (none d)
@@ -135,10 +136,10 @@ module _ (h : Past) (x : ℕ → ℕ) (m : ℕ) (w : Standing) (e : List ℕ) (s
       rw st.table
       (rw (eq-eqb (length w.report) report_size st.report) at (outcome_is h.state (record { event = e; report = w.report }) st.tested))
 
-  abbrev Next : EventRead → Standing → Type 0
+  abbrev Next : Option Event → Standing → Type 0
   Next o w' = Stands (play h (read_in o)) (λ s. x s + entries_with s h (read_in o)) (max m (largest_over h (read_in o))) w'
 
-  unread : Next Unreadable (behind w (expected_on h.state w.report Unreadable) (kind_of e))
+  unread : Next None (behind w (expected_on h.state w.report None) (kind_of e))
   unread =
       let n = task_count_lem h.state st.tested in
       record {
@@ -153,7 +154,7 @@ module _ (h : Past) (x : ℕ → ℕ) (m : ℕ) (w : Standing) (e : List ℕ) (s
             refl refl refl (omega arith) (omega (arith, n, st.tested.few)) st.tells);
       }
 
-  read : (v : Event) → event_of e ≡ Readable v → Next (Readable v) (behind w (expected_on h.state w.report (Readable v)) (kind_of e))
+  read : (v : Event) → event_of e ≡ Some v → Next (Some v) (behind w (expected_on h.state w.report (Some v)) (kind_of e))
   read v q =
       let s = h.state in
       let after = tested_advance h v st.tested in
@@ -172,7 +173,7 @@ module _ (h : Past) (x : ℕ → ℕ) (m : ℕ) (w : Standing) (e : List ℕ) (s
             (λ i k. omega arith)
             (rw (advance_roll h v) (rw (← accepted_one s e v q) (sym (length-append h.roll (accepted s v)))))
             (omega (arith, n)) n
-            (event_step (ends_with h) x (length h.roll) m (length s.tasks) w.counts (answered (expected_on s w.report (Readable v))) (kind_of e) (count_in (table_bytes (step s v)))
+            (event_step (ends_with h) x (length h.roll) m (length s.tasks) w.counts (answered (expected_on s w.report (Some v))) (kind_of e) (count_in (table_bytes (step s v)))
             (cond (writes_report (answer s v)) (report_bytes (report s v)) w.report) (report s v) lists.0
             (report_bytes_lem s v) refl lists.1 status (omega (arith, n, after.few)) st.tells);
       }
@@ -181,9 +182,9 @@ module _ (h : Past) (x : ℕ → ℕ) (m : ℕ) (w : Standing) (e : List ℕ) (s
   unfolding count_piece
   piece_stands = rw as_expected (go (event_of e) refl)
     where
-      go : (o : EventRead) → event_of e ≡ o → Next o (behind w (expected_on h.state w.report o) (kind_of e))
-      go Unreadable q = unread
-      go (Readable v) q = read v q
+      go : (o : Option Event) → event_of e ≡ o → Next o (behind w (expected_on h.state w.report o) (kind_of e))
+      go None q = unread
+      go (Some v) q = read v q
 
 -- Events one behind the other --------------------------------------------------------------------------------------------------------------
 

@@ -1,7 +1,7 @@
 -- Believed by nobody: code's own way of walking, proved equal to what the rules say (docs/TRUST.md).
 -- A stretch of log played record by record.
 --
---   Standing, standing t r c := table, report buffer and counters
+--   standing t r c         := table, report buffer and counters
 --   counted o k c          := the counters after an event of the kind k that apply answered with o
 --   count_piece w e, walk_over n w l := after the piece e; after the first n records of l
 --   Ready .., StoodAt ..   := what the walk over a stretch from a place in it asks; what it leaves
@@ -14,14 +14,10 @@ use Rattle.records.specs.Tables.{table_size, report_size, count_in}
 use Rattle.operations.specs.Operations.{Outcome, outcome}
 use Rattle.numbers.specs.Boundary.{answered}
 use Rattle.tallies.specs.Counters.{counters, count_event}
+use Rattle.logs.specs.declared.play.Standing.{Standing}
 use Rattle.logs.specs.SoFar.{wholes, rest}
 
 -- A walk -----------------------------------------------------------------------------------------------------------------------------------
-
-pub record Standing : Type 0 where
-  pub table : List ℕ
-  pub report : List ℕ
-  pub counts : List ℕ
 
 abbrev pub standing : List ℕ → List ℕ → List ℕ → Standing
 standing t r c = record { table = t; report = r; counts = c }
@@ -41,17 +37,17 @@ unfoldable pub walk_over : ℕ → Standing → List ℕ → Standing
 walk_over zero w l = w
 walk_over (suc n) w l = walk_over n (count_piece w (take event_size l)) (drop event_size l)
 
-pub record Ready (s : List ℕ) (at : ℕ) (t r c : List ℕ) : Type 0 where
-  pub table : length t ≡ table_size
-  pub report : length r ≡ report_size
-  pub counts : length c ≡ counters
+pub record Ready (s : List ℕ) (at : ℕ) (w : Standing) : Type 0 where
+  pub table : length w.table ≡ table_size
+  pub report : length w.report ≡ report_size
+  pub counts : length w.counts ≡ counters
   pub within : at ≤ length s
 
-pub record StoodAt (s : List ℕ) (at : ℕ) (t r c t' r' c' : List ℕ) (p : ℕ) : Type 0 where
-  pub stood : standing t' r' c' ≡ walk_over ((length s - at) / event_size) (standing t r c) (drop at s)
+pub record StoodAt (s : List ℕ) (at : ℕ) (w w' : Standing) (p : ℕ) : Type 0 where
+  pub stood : w' ≡ walk_over ((length s - at) / event_size) w (drop at s)
   pub place : p ≡ at + event_size * ((length s - at) / event_size)
 
-pub record TakenAs (b : List ℕ) (end : ℕ) (t r c t' r' c' b' : List ℕ) (n : ℕ) : Type 0 where
-  pub stood : standing t' r' c' ≡ walk_over (wholes (take end b)) (standing t r c) (take end b)
+pub record TakenAs (b : List ℕ) (end : ℕ) (w w' : Standing) (b' : List ℕ) (n : ℕ) : Type 0 where
+  pub stood : w' ≡ walk_over (wholes (take end b)) w (take end b)
   pub count : n ≡ length (rest (take end b))
   pub carried : b' ≡ paste b 0 (rest (take end b)) n

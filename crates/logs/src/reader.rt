@@ -1,9 +1,9 @@
 // RULES 25.2: the log reader: it walks one lent stretch of log and remembers where it stands. Each function is thin; the work is done by `play_from`, on slice and
 // offset.
-ghost use Rattle.std.specs.Prelude.{◌≡◌};
-ghost use Rattle.logs.specs.Walking.{Ready, StoodAt};
+ghost use Rattle.std.specs.Prelude.{◌≤◌, ◌≡◌, length};
+ghost use Rattle.logs.specs.Walking.{StoodAt};
 
-use crate::play::play_from;
+use crate::play::{Standing, play_from};
 
 #[derive(Clone, Copy)]
 pub struct LogReader<'a> {
@@ -11,45 +11,33 @@ pub struct LogReader<'a> {
     pub at: usize,
 }
 
-// At the start of the stretch.
-pub fn open<'a>(stretch: &'a [u8]) -> LogReader<'a>
-    ensures { (result.stretch ≡ stretch.entry) × (result.at ≡ 0) }
-{
-    LogReader { stretch, at: 0 }
-}
+impl<'a> LogReader<'a> {
+    // At the start of the stretch.
+    pub fn open(stretch: &'a [u8]) -> LogReader<'a>
+        ensures { (result.stretch ≡ stretch.entry) × (result.at ≡ 0) }
+    {
+        LogReader { stretch, at: 0 }
+    }
 
-pub fn place<'a>(r: LogReader<'a>) -> usize
-    ensures { result ≡ r.entry.at }
-{
-    r.at
-}
+    pub fn place(self) -> usize
+        ensures { result ≡ self.entry.at }
+    {
+        self.at
+    }
 
-// Plays the whole records from where the reader stands, and hands it back standing behind them.
-pub fn play<'a>(
-    r: LogReader<'a>,
-    table: &mut [u8],
-    report: &mut [u8],
-    counts: &mut [u64],
-) -> LogReader<'a>
-    requires { Ready r.stretch.now r.at table.old report.old counts.old }
-    ensures { (result.stretch ≡ r.entry.stretch) × StoodAt r.entry.stretch.now r.entry.at table.old report.old counts.old table.new report.new counts.new result.at }
-{
-    let at = play_from(r.stretch, r.at, table, report, counts);
-    LogReader {
-        stretch: r.stretch,
-        at,
+    // Plays the whole records from where the reader stands, and hands it back standing behind them.
+    pub fn play(self, standing: &mut Standing) -> LogReader<'a>
+        requires { self.at ≤ length self.stretch.now }
+        ensures { (result.stretch ≡ self.entry.stretch) × StoodAt self.entry.stretch.now self.entry.at standing.old standing.new result.at }
+    {
+        let at = play_from(self.stretch, self.at, standing);
+        LogReader { at, ..self }
     }
 }
 
 // Where the reader stands when it has walked the whole stretch.
-pub fn play_stretch(
-    stretch: &[u8],
-    table: &mut [u8],
-    report: &mut [u8],
-    counts: &mut [u64],
-) -> usize
-    requires { Ready stretch.now 0 table.old report.old counts.old }
-    ensures { StoodAt stretch.now 0 table.old report.old counts.old table.new report.new counts.new result }
+pub fn play_stretch(stretch: &[u8], standing: &mut Standing) -> usize
+    ensures { StoodAt stretch.now 0 standing.old standing.new result }
 {
-    place(play(open(stretch), table, report, counts))
+    LogReader::open(stretch).play(standing).place()
 }

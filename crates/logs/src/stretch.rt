@@ -1,32 +1,17 @@
 // RULES 24.12: a log cut in stretches: what is left of one is carried to the front of the next.
-ghost use Rattle.std.specs.Prelude.{◌-◌, ◌≤◌, ◌≡◌, length, drop};
-ghost use Rattle.std.proofs.Math.Seq.{paste};
-ghost use Rattle.logs.specs.Walking.{Ready, TakenAs};
+ghost use Rattle.std.specs.Prelude.{◌≤◌, length};
+ghost use Rattle.logs.specs.Walking.{TakenAs};
 
+use crate::play::Standing;
 use crate::reader::play_stretch;
 
-fn carry(buffer: &mut [u8], from: usize, to: usize)
-    requires from_le_to { from ≤ to }
-    requires to_in_bounds { to ≤ length buffer.old }
-    ensures { buffer.new ≡ paste buffer.old 0 (drop from buffer.old) (to - from) }
-{
-    for i in 0..to - from {
-        buffer[i] = buffer[from + i];
-    }
-}
-
+// Kept (docs/DESIGN-PASS.md, 6): no plainer; what is left goes to the front of the whole buffer, of which `end` bytes are filled.
 // Plays the whole records among the first `end` bytes of the buffer, and says how many bytes behind them it carried to its front.
-pub fn take_in(
-    table: &mut [u8],
-    report: &mut [u8],
-    counts: &mut [u64],
-    buffer: &mut [u8],
-    end: usize,
-) -> usize
-    requires { Ready buffer.old end table.old report.old counts.old }
-    ensures { TakenAs buffer.old end table.old report.old counts.old table.new report.new counts.new buffer.new result }
+pub fn take_in(standing: &mut Standing, buffer: &mut [u8], end: usize) -> usize
+    requires { end ≤ length buffer.old }
+    ensures { TakenAs buffer.old end standing.old standing.new buffer.new result }
 {
-    let at = play_stretch(&buffer[..end], table, report, counts);
-    carry(buffer, at, end);
+    let at = play_stretch(&buffer[..end], standing);
+    buffer.copy_within(at..end, 0);
     end - at
 }

@@ -6,10 +6,10 @@
 --   turn_for n         := what name returns
 --   start_number t p   := what start returns
 --   StartsAs, AppliesAs, NamesAs   := what the three functions promise: the result, and every byte of the buffers that they are lent to write
-use Rattle.std.specs.Prelude.{ℕ, ◌≡◌, true, false, List}
+use Rattle.std.specs.Prelude.{ℕ, ◌≡◌, true, false, List, Option, Some, None}
 use Rattle.operations.specs.AnswerNumbers.{said}
 use Rattle.operations.specs.Operations.{Outcome, outcome, named, started}
-use Rattle.rules.specs.Types.{Answer, Turn, Nothing, Names}
+use Rattle.rules.specs.Types.{Answer, Named}
 use Rattle.operations.specs.Types.{Naming}
 use Rattle.numbers.specs.Types.{Answered, NamedTurn}
 
@@ -29,9 +29,9 @@ abbrev pub answered : Outcome → Answered
 answered o = numbers_of o.answer o.ended
 
 -- RULES 20.2: name
-abbrev pub turn_in_numbers : Answer → Turn → NamedTurn
-turn_in_numbers a Nothing = record { answer = (said a).number; found = false; nexus = 0; tag = 0 }
-turn_in_numbers a (Names n) = record { answer = (said a).number; found = true; nexus = n.nexus; tag = n.tag }
+abbrev pub turn_in_numbers : Answer → Option Named → NamedTurn
+turn_in_numbers a None = record { answer = (said a).number; found = false; nexus = 0; tag = 0 }
+turn_in_numbers a (Some n) = record { answer = (said a).number; found = true; nexus = n.nexus; tag = n.tag }
 
 abbrev pub turn_for : Naming → NamedTurn
 turn_for n = turn_in_numbers n.answer n.turn

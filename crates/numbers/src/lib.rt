@@ -2,12 +2,12 @@
 #![tactic(auto)]
 
 ghost use Rattle.std.specs.Prelude.{◌≡◌};
-ghost use Rattle.numbers.specs.Boundary.{numbers_of, turn_in_numbers};
+ghost use Rattle.numbers.specs.Boundary.{numbers_of, turn_for};
 
-use values::{Answer, Tag, Turn};
+use values::{Answer, Applied, Naming, Tag};
 
 #[repr(C)]
-#[derive(Clone, Copy)]
+#[derive(Clone, Copy, PartialEq, Eq)]
 pub struct Answered {
     pub answer: u8,
     pub status: u8,
@@ -17,8 +17,9 @@ pub struct Answered {
     pub ended: u8,
 }
 
+// Kept (docs/DESIGN-PASS.md, 1): the C interface; include/dedakhumi.h has `found` beside nexus and tag.
 #[repr(C)]
-#[derive(Clone, Copy)]
+#[derive(Clone, Copy, PartialEq, Eq)]
 pub struct NamedTurn {
     pub answer: u8,
     pub found: bool,
@@ -26,59 +27,74 @@ pub struct NamedTurn {
     pub tag: Tag,
 }
 
-fn only(answer: u8, ended: u8) -> Answered
-    ensures { result ≡ record { answer = answer; status = 0; key = 0; code = 0; qualifier = 0; ended = ended } }
+fn only(answer: u8) -> Answered
+    ensures { result ≡ record { answer = answer; status = 0; key = 0; code = 0; qualifier = 0; ended = 0 } }
 {
     Answered {
-        answer: answer,
+        answer,
         status: 0,
         key: 0,
         code: 0,
         qualifier: 0,
-        ended: ended,
+        ended: 0,
     }
 }
 
-pub fn in_numbers(a: Answer, ended: u8) -> Answered
-    ensures { result ≡ numbers_of a ended }
-{
-    match a {
-        Answer::Done => only(0, ended),
-        Answer::BadTable => only(1, ended),
-        Answer::BadReport => only(2, ended),
-        Answer::BadEvent => only(3, ended),
-        Answer::NexusAboveSeven => only(4, ended),
-        Answer::NoSuchTask => only(5, ended),
-        Answer::NotEnabled => only(6, ended),
-        Answer::EndedAtEntry(st, se) => Answered {
-            answer: 7,
-            status: st,
-            key: se.key,
-            code: se.code,
-            qualifier: se.qualifier,
-            ended: ended,
-        },
-        Answer::Rejected => only(8, ended),
-        Answer::BadPolicy => only(9, ended),
+// What start and name answer, and apply where nothing ended.
+impl From<Answer> for Answered {
+    ghost from_gives = { λ a r. r ≡ numbers_of a 0 };
+
+    fn from(a: Answer) -> Answered {
+        match a {
+            Answer::Done => only(0),
+            Answer::BadTable => only(1),
+            Answer::BadReport => only(2),
+            Answer::BadEvent => only(3),
+            Answer::NexusAboveSeven => only(4),
+            Answer::NoSuchTask => only(5),
+            Answer::NotEnabled => only(6),
+            Answer::EndedAtEntry(status, sense) => Answered {
+                status,
+                key: sense.key,
+                code: sense.code,
+                qualifier: sense.qualifier,
+                ..only(7)
+            },
+            Answer::Rejected => only(8),
+            Answer::BadPolicy => only(9),
+        }
     }
 }
 
-pub fn turn_in_numbers(a: Answer, u: Turn) -> NamedTurn
-    ensures { result ≡ turn_in_numbers a u }
-{
-    let n = in_numbers(a, 0);
-    match u {
-        Turn::Nothing => NamedTurn {
-            answer: n.answer,
-            found: false,
-            nexus: 0,
-            tag: 0,
-        },
-        Turn::Names(x) => NamedTurn {
-            answer: n.answer,
-            found: true,
-            nexus: x.nexus,
-            tag: x.tag,
-        },
+impl From<Applied> for Answered {
+    ghost from_gives = { λ a r. r ≡ numbers_of a.answer a.ended };
+
+    fn from(a: Applied) -> Answered {
+        Answered {
+            ended: a.ended,
+            ..Answered::from(a.answer)
+        }
+    }
+}
+
+impl From<Naming> for NamedTurn {
+    ghost from_gives = { λ n r. r ≡ turn_for n };
+
+    fn from(n: Naming) -> NamedTurn {
+        let answer = Answered::from(n.answer).answer;
+        match n.turn {
+            None => NamedTurn {
+                answer,
+                found: false,
+                nexus: 0,
+                tag: 0,
+            },
+            Some(x) => NamedTurn {
+                answer,
+                found: true,
+                nexus: x.nexus,
+                tag: x.tag,
+            },
+        }
     }
 }

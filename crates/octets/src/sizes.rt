@@ -29,6 +29,11 @@ pub const TABLE_SIZE: usize = TASKS_AT + TASK_SIZE * PLACES;
 
 pub const REPORT_SIZE: usize = ENDED_SIZE * PLACES;
 
+// What a driver lends, once its length is looked at.
+pub type Table = [u8; TABLE_SIZE];
+
+pub type Report = [u8; REPORT_SIZE];
+
 // In the header record.
 pub const POLICY_OFFSET: usize = 3;
 

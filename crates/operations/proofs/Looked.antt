@@ -1,4 +1,5 @@
 -- The looks that come before an event is ruled on.
+use Rattle.std.specs.Prelude.{Option, Some, None}
 use Prim.Native.Nat.{ℕ, ◌≤◌, ◌<◌}
 use mathlib.Core.Bool.{true, false, cond}
 use mathlib.Core.Path.{◌≡◌, refl, ap, ◌∙◌}
@@ -15,7 +16,6 @@ use Rattle.records.specs.Tables.{report_size, state_of, GoodTable, report_bytes,
 use Rattle.records.specs.Events.{event_of}
 use Rattle.records.proofs.GoodSays.{good_table_says}
 use Rattle.rules.specs.Types.{Event, Answer, BadTable, BadReport, BadEvent, NexusAboveSeven, Rejected, Keeps}
-use Rattle.records.specs.declared.events.EventRead.{EventRead, TheVariants.Readable, TheVariants.Unreadable}
 use Rattle.operations.specs.Types.{Applied}
 use Rattle.operations.specs.AnswerNumbers.{writes_report}
 use Rattle.operations.specs.Operations.{Outcome, refused, carried, on_event, outcome, AppliedAs}
@@ -42,26 +42,26 @@ module _ (t r e : List ℕ) where
   no_report h l = rw (h, ne_eqb (length r) report_size l)
 
   module _ (h : good_table t ≡ true) (l : length r ≡ report_size) where
-    pub looked : (o : EventRead) → event_of e ≡ o → outcome t r e ≡ on_event t r o
+    pub looked : (o : Option Event) → event_of e ≡ o → outcome t r e ≡ on_event t r o
     unfolding outcome
     looked o f = rw (h, eq-eqb (length r) report_size l, f)
 
-    pub no_event : event_of e ≡ Unreadable → outcome t r e ≡ refused BadEvent t r
-    no_event f = looked Unreadable f
+    pub no_event : event_of e ≡ None → outcome t r e ≡ refused BadEvent t r
+    no_event f = looked None f
 
-    pub ruled_on : (v : Event) → event_of e ≡ Readable v → outcome t r e ≡ carried t r (state_of t) (ruling (state_of t) v)
-    ruled_on v f = looked (Readable v) f
+    pub ruled_on : (v : Event) → event_of e ≡ Some v → outcome t r e ≡ carried t r (state_of t) (ruling (state_of t) v)
+    ruled_on v f = looked (Some v) f
 
-    pub no_nexus : (v : Event) → event_of e ≡ Readable v → nexuses ≤ nexus_of v → outcome t r e ≡ refused NexusAboveSeven t r
+    pub no_nexus : (v : Event) → event_of e ≡ Some v → nexuses ≤ nexus_of v → outcome t r e ≡ refused NexusAboveSeven t r
     no_nexus v f g = ruled_on v f ∙ rw (ruling_high (state_of t) v g)
 
 -- where each answer comes from
 pub outcome_cases : (P : Outcome → Type 0) (t r e : List ℕ)
     → ((GoodTable t → ⊥) → P (refused BadTable t r))
     → (GoodTable t → (length r ≡ report_size → ⊥) → P (refused BadReport t r))
-    → (GoodTable t → length r ≡ report_size → event_of e ≡ Unreadable → P (refused BadEvent t r))
-    → (GoodTable t → length r ≡ report_size → (v : Event) → event_of e ≡ Readable v → nexuses ≤ nexus_of v → P (refused NexusAboveSeven t r))
-    → (GoodTable t → length r ≡ report_size → (v : Event) → event_of e ≡ Readable v → nexus_of v < nexuses
+    → (GoodTable t → length r ≡ report_size → event_of e ≡ None → P (refused BadEvent t r))
+    → (GoodTable t → length r ≡ report_size → (v : Event) → event_of e ≡ Some v → nexuses ≤ nexus_of v → P (refused NexusAboveSeven t r))
+    → (GoodTable t → length r ≡ report_size → (v : Event) → event_of e ≡ Some v → nexus_of v < nexuses
     → P (carried t r (state_of t) (ruling (state_of t) v)))
     → P (outcome t r e)
 unfolding outcome
@@ -72,8 +72,8 @@ outcome_cases P t r e table report event nexus rule =
     (λ l. report ((good_table_says t).0 g) (eqb-false (length r) report_size l)))
     (λ g. table (λ w. not_both ((good_table_says t).1 w) g))
   where
-    go : GoodTable t → length r ≡ report_size → (o : EventRead) → event_of e ≡ o → P (on_event t r o)
-    go w l Unreadable q = event w l q
-    go w l (Readable v) q =
+    go : GoodTable t → length r ≡ report_size → (o : Option Event) → event_of e ≡ o → P (on_event t r o)
+    go w l None q = event w l q
+    go w l (Some v) q =
         split (ltb (nexus_of v) nexuses) (λ h. rule w l v q (ltb-true (nexus_of v) nexuses h))
         (λ h. let n = ltb-false (nexus_of v) nexuses h in rw (ruling_high (state_of t) v n) (nexus w l v q n))

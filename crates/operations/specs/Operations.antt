@@ -5,14 +5,13 @@
 --   named t                := name the task whose turn it is
 --   Started, started t p   := start a fresh table in the buffer t under the policy byte p
 --   AppliedAs, StartedAs   := what a result and the buffers at exit have to be
-use Rattle.std.specs.Prelude.{ℕ, ◌≡◌, cond, List, [], eqb, length}
+use Rattle.std.specs.Prelude.{ℕ, ◌≡◌, cond, List, [], eqb, length, Option, Some, None}
 use Rattle.rules.specs.Rulings.{State, turn, fresh, ruled, answer_of, report_of}
 use Rattle.rules.specs.Rules.{ruling}
 use Rattle.records.specs.Numbers.{policy_fits, policy_from}
 use Rattle.records.specs.Tables.{table_size, report_size, state_of, table_bytes, report_bytes, good_table}
 use Rattle.records.specs.Events.{event_of}
-use Rattle.rules.specs.Types.{Answer, Done, BadTable, BadReport, BadEvent, BadPolicy, Turn, Nothing, Ruling, Keeps, Changes}
-use Rattle.records.specs.declared.events.EventRead.{EventRead, TheVariants.Readable, TheVariants.Unreadable}
+use Rattle.rules.specs.Types.{Answer, Done, BadTable, BadReport, BadEvent, BadPolicy, Ruling, Keeps, Changes, Event, Named}
 use Rattle.operations.specs.Types.{Applied, Naming}
 use Rattle.operations.specs.AnswerNumbers.{writes_report}
 
@@ -45,9 +44,9 @@ carried t r s l =
     record { answer = answer_of l; ended = length (report_of s l); table = table_after t s l; report = report_after r s l }
 
 -- RULES 19.3: the event (3); its nexus (4) is for the rules to refuse
-abbrev pub on_event : List ℕ → List ℕ → EventRead → Outcome
-on_event t r Unreadable = refused BadEvent t r
-on_event t r (Readable e) = carried t r (state_of t) (ruling (state_of t) e)
+abbrev pub on_event : List ℕ → List ℕ → Option Event → Outcome
+on_event t r None = refused BadEvent t r
+on_event t r (Some e) = carried t r (state_of t) (ruling (state_of t) e)
 
 -- RULES 19.3: the table (1), the length of the report (2), then the event
 unfoldable pub outcome : List ℕ → List ℕ → List ℕ → Outcome
@@ -64,12 +63,12 @@ pub record AppliedAs (o : Outcome) (a : Applied) (t r : List ℕ) : Type 0 where
 -- Name -------------------------------------------------------------------------------------------------------------------------------------
 
 -- RULES 19.4: answer and turn
-abbrev pub naming : Answer → Turn → Naming
+abbrev pub naming : Answer → Option Named → Naming
 naming a u = record { answer = a; turn = u }
 
 -- RULES 19.4
 unfoldable pub named : List ℕ → Naming
-named t = cond (good_table t) (naming Done (turn (state_of t))) (naming BadTable Nothing)
+named t = cond (good_table t) (naming Done (turn (state_of t))) (naming BadTable None)
 
 -- Start ------------------------------------------------------------------------------------------------------------------------------------
 

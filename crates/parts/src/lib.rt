@@ -1,89 +1,64 @@
 // What rulings are made of: what the checks at entry ask, and the pieces that more than one ruling has.
 #![tactic(auto)]
 
-ghost use Rattle.std.specs.Prelude.{◌≡◌, cond, leb};
+ghost use Rattle.std.specs.Prelude.{◌≡◌, cond, leb, None};
 ghost use Rattle.rules.specs.Tasks.{places};
 ghost use Rattle.rules.specs.Bits.{top};
-ghost use Rattle.rules.specs.Rulings.{is_clear};
 ghost use Rattle.rules.specs.Rules.{sweeping, asks_aca, bad_attribute, attribute_of, tells_others, telling};
 ghost use Rattle.parts.specs.CheckTwo.{held_off, held_status};
 
 use decide::pending::top_bit;
 use decide::states::is_aca;
 use values::{
-    Allegiance, Asked, Attribute, Change, Header, Joins, MOST_TASKS, Notice, Pending, Qerr, Sweep,
-    Top,
+    ACA_ACTIVE, Attribute, BUSY, Bit, Change, Header, MOST_TASKS, Notice, Pending, Qerr, Sweep,
 };
 
-pub fn asks_aca(asked: Asked) -> bool
+pub fn asks_aca(asked: Option<Attribute>) -> bool
     ensures { result ≡ asks_aca asked }
 {
-    match asked {
-        Asked::Known(a) => is_aca(a),
-        Asked::NoneOfFour => false,
-    }
+    asked.is_some_and(is_aca)
 }
 
 // Check 2 stops the command.
-pub fn held_off(aca: Allegiance, n: u8, asks: bool, has_aca: bool) -> bool
+pub fn held_off(aca: Option<u8>, n: u8, asks: bool, has_aca: bool) -> bool
     ensures { result ≡ held_off aca n asks has_aca }
 {
     match aca {
-        Allegiance::Clear => false,
-        Allegiance::Faulted(f) => !((n == f) & asks & !has_aca),
+        None => false,
+        Some(f) => !((n == f) & asks & !has_aca),
     }
-}
-
-fn status_if(b: bool, yes: u8, other: u8) -> u8
-    ensures { result ≡ cond b yes other }
-{
-    if b { yes } else { other }
 }
 
 // The status that check 2 gives.
-pub fn held_status(aca: Allegiance, n: u8, naca: bool) -> u8
+pub fn held_status(aca: Option<u8>, n: u8, naca: bool) -> u8
     ensures { result ≡ held_status aca n naca }
 {
-    match aca {
-        Allegiance::Clear => 0x30,
-        Allegiance::Faulted(f) => status_if((n == f) | naca, 0x30, 0x08),
+    if aca.is_none_or(|f| (n == f) | naca) {
+        ACA_ACTIVE
+    } else {
+        BUSY
     }
 }
 
-pub fn bit_if(exempt: bool, p: Pending) -> Top
-    ensures { result ≡ cond exempt Top.NoBit (top p) }
+pub fn bit_if(exempt: bool, p: Pending) -> Option<Bit>
+    ensures { result ≡ cond exempt None (top p) }
 {
-    if exempt {
-        return Top::NoBit;
-    }
-    top_bit(p)
+    if exempt { None } else { top_bit(p) }
 }
 
-pub fn is_clear(aca: Allegiance) -> bool
-    ensures { result ≡ is_clear aca }
-{
-    match aca {
-        Allegiance::Clear => true,
-        Allegiance::Faulted(_) => false,
-    }
-}
-
-pub fn bad_attribute(aca: Allegiance, asked: Asked) -> bool
+pub fn bad_attribute(aca: Option<u8>, asked: Option<Attribute>) -> bool
     ensures { result ≡ bad_attribute aca asked }
 {
     match asked {
-        Asked::Known(a) => is_aca(a) & is_clear(aca),
-        Asked::NoneOfFour => true,
+        Some(a) => is_aca(a) & aca.is_none(),
+        None => true,
     }
 }
 
-pub fn attribute_of(asked: Asked) -> Attribute
+pub fn attribute_of(asked: Option<Attribute>) -> Attribute
     ensures { result ≡ attribute_of asked }
 {
-    match asked {
-        Asked::Known(a) => a,
-        Asked::NoneOfFour => Attribute::Simple,
-    }
+    asked.unwrap_or(Attribute::Simple)
 }
 
 pub fn is_full(h: Header) -> bool
@@ -97,7 +72,7 @@ pub fn sweeping_by(h: Header, w: Sweep) -> Change
 {
     Change {
         sweep: w,
-        joins: Joins::NoTask,
+        joins: None,
         header: h,
         notice: Notice::Quiet,
     }
@@ -107,34 +82,16 @@ pub fn sweeping_by(h: Header, w: Sweep) -> Change
 pub fn tells_others(qerr: Qerr, tas: bool) -> bool
     ensures { result ≡ tells_others qerr tas }
 {
-    match qerr {
-        Qerr::EndNone => false,
-        Qerr::EndAll => !tas,
-        Qerr::EndNexus => false,
-    }
+    (qerr == Qerr::EndAll) & !tas
 }
 
-fn notice_if(b: bool, yes: Notice, other: Notice) -> Notice
-    ensures { result ≡ cond b yes other }
-{
-    if b { yes } else { other }
-}
-
-pub fn tell(n: u8, top: Top, others: bool) -> Notice
+pub fn tell(n: u8, top: Option<Bit>, others: bool) -> Notice
     ensures { result ≡ telling n top others }
 {
     match top {
-        Top::NoBit => notice_if(others, Notice::OthersLost(n), Notice::Quiet),
-        Top::Highest(b) => notice_if(
-            others,
-            Notice::ReportedAndOthersLost(n, b),
-            Notice::Reported(n, b),
-        ),
+        None if others => Notice::OthersLost(n),
+        None => Notice::Quiet,
+        Some(b) if others => Notice::ReportedAndOthersLost(n, b),
+        Some(b) => Notice::Reported(n, b),
     }
-}
-
-pub fn aca_if(b: bool, yes: Allegiance, other: Allegiance) -> Allegiance
-    ensures { result ≡ cond b yes other }
-{
-    if b { yes } else { other }
 }

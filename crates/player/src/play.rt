@@ -1,41 +1,31 @@
 // RULES 24.1, 24.3 and 24.4: event bytes played piece by piece, their lines put into a buffer.
-ghost use Rattle.std.specs.Prelude.{◌+◌, ◌*◌, ◌≤◌, min, ◌≡◌, length};
+ghost use Rattle.std.specs.Prelude.{◌+◌, ◌*◌, ◌≤◌, ◌≡◌, length};
 ghost use Rattle.operations.specs.Operations.{outcome};
 ghost use Rattle.records.specs.Events.{pieces};
 ghost use Rattle.player.specs.Played.{played, OnePlayed, PlayedAs};
 
 use dedakhumi::dedakhumi_apply;
-use lines::put_line;
+use lines::Writer;
 use octets::sizes::EVENT_SIZE;
 
-fn play_one(table: &mut [u8], report: &mut [u8], event: &[u8], out: &mut [u8], at: usize) -> usize
-    requires { at + 20 ≤ length out.old }
-    ensures { OnePlayed (outcome table.old report.old event.now) out.old at table.new report.new out.new result }
+// Kept (docs/DESIGN-PASS.md, 5): the speed, and `PlayedAs`, which speaks of tables and reports of any length. With both in a struct of arrays the player takes
+// 1,191 instructions a record at 3 tasks, this 1,136.
+fn play_one(table: &mut [u8], report: &mut [u8], event: &[u8], out: &mut Writer)
+    requires { out.old.at + 20 ≤ length out.old.buffer.now }
+    ensures one { OnePlayed (outcome table.old report.old event.now) out.old.buffer.now out.old.at table.new report.new out.new.buffer.now out.new.at }
+    ensures same { out.new.buffer.ghost_name ≡ out.old.buffer.ghost_name }
 {
-    let a = dedakhumi_apply(table, report, event);
-    put_line(out, at, a)
+    out.put_line(dedakhumi_apply(table, report, event));
 }
-
-fn least(a: usize, b: usize) -> usize
-    ensures { result ≡ min a b }
-{
-    if a < b { a } else { b }
-}
-
-// Of a piece that is no whole record there are at most so many bytes.
-const SHORT: usize = EVENT_SIZE - 1;
 
 // Only the last piece can be shorter than a record; that is apply's to refuse.
-pub fn play(table: &mut [u8], report: &mut [u8], events: &[u8], out: &mut [u8]) -> usize
-    requires { 20 * pieces (length events.now) ≤ length out.old }
-    ensures { PlayedAs (played (pieces (length events.now)) table.old report.old events.now) table.new report.new out.new result }
+pub fn play(table: &mut [u8], report: &mut [u8], events: &[u8], buffer: &mut [u8]) -> usize
+    requires { 20 * pieces (length events.now) ≤ length buffer.old }
+    ensures { PlayedAs (played (pieces (length events.now)) table.old report.old events.now) table.new report.new buffer.new result }
 {
-    let n = (events.len() + SHORT) / EVENT_SIZE;
-    let mut at = 0;
-    for i in 0..n {
-        let from = EVENT_SIZE * i;
-        let to = least(from + EVENT_SIZE, events.len());
-        at = play_one(table, report, &events[from..to], out, at);
+    let mut out = Writer { buffer, at: 0 };
+    for event in events.chunks(EVENT_SIZE) {
+        play_one(table, report, event, &mut out);
     }
-    at
+    out.at
 }

@@ -1,4 +1,5 @@
 -- The event records: each is read back as its event, and what is read is one of them.
+use Rattle.std.specs.Prelude.{Option, Some, None}
 use Prim.Native.Nat.{ℕ, ◌+◌, ◌*◌, ◌/◌, ◌%◌, ◌<◌}
 use mathlib.Core.Bool.{Bool, true, false, ◌||◌, ◌&&◌}
 use mathlib.Core.Path.{◌≡◌, refl, ap, sym, ◌∙◌}
@@ -10,9 +11,8 @@ use lib.ListN.{length, get_or}
 use lib.Seq.{take_all}
 use borrow.Author.Tests.{eqb-true, eqb-false, ne_eqb, ltb-true, lt-ltb, le-ltb}
 use Rattle.laws.proofs.Bools.{and-true, or-true, not_both, cases, split}
-use Rattle.rules.specs.Types.{Asked, Known, NoneOfFour, Finish, Good, CheckCondition, Busy, ReservationConflict, Function, AbortTask, AbortTaskSet, ClearTaskSet, ClearAca, LogicalUnitReset, Unknown, Happening, PowerOn, HardReset, NexusLoss, Event, Command, Completion, Management, Condition}
+use Rattle.rules.specs.Types.{Finish, Good, CheckCondition, Busy, ReservationConflict, Function, AbortTask, AbortTaskSet, ClearTaskSet, ClearAca, LogicalUnitReset, Unknown, Happening, PowerOn, HardReset, NexusLoss, Event, Command, Completion, Management, Condition, Attribute}
 use Rattle.rules.specs.Rules.{status_of}
-use Rattle.records.specs.Types.{EventRead, Readable, Unreadable}
 use Rattle.records.specs.Numbers.{flag, bit_of, tag_in, attribute_fits}
 use Rattle.records.specs.Records.{event_size, marked}
 use Rattle.records.specs.Tables.{Bytes}
@@ -27,26 +27,26 @@ line_read : (k n a b g : ℕ) → event_of (event_line k n a b g) ≡ event_from
 unfolding event_of
 line_read k n a b g = rw (tag_back g)
 
-asked_back : (a : ℕ) (t : Asked) → SpareAttribute a t → asked_from (asked_number a t) ≡ t
-asked_back a (Known t) s = rw (attribute_fits_lem t, attribute_back t)
-asked_back a NoneOfFour s = rw s
+asked_back : (a : ℕ) (t : Option Attribute) → SpareAttribute a t → asked_from (asked_number a t) ≡ t
+asked_back a (Some t) s = rw (attribute_fits_lem t, attribute_back t)
+asked_back a None s = rw s
 
 command_back :
-    (n a g : ℕ) (t : Asked) (p q : Bool) → SpareAttribute a t
-    → command_from n (asked_number a t) (flag p + flag q * 2) g ≡ Readable (Command (record { nexus = n; asked = t; naca = p; exempt = q; tag = g }))
+    (n a g : ℕ) (t : Option Attribute) (p q : Bool) → SpareAttribute a t
+    → command_from n (asked_number a t) (flag p + flag q * 2) g ≡ Some (Command (record { nexus = n; asked = t; naca = p; exempt = q; tag = g }))
 command_back n a g t true true s = rw (asked_back a t s)
 command_back n a g t true false s = rw (asked_back a t s)
 command_back n a g t false true s = rw (asked_back a t s)
 command_back n a g t false false s = rw (asked_back a t s)
 
-completion_back : (n g : ℕ) (f : Finish) → completion_from n (status_of f) 0 g ≡ Readable (Completion n g f)
+completion_back : (n g : ℕ) (f : Finish) → completion_from n (status_of f) 0 g ≡ Some (Completion n g f)
 completion_back n g Good = refl
 completion_back n g CheckCondition = refl
 completion_back n g Busy = refl
 completion_back n g ReservationConflict = refl
 
 management_back :
-    (n a g : ℕ) (f : Function) → SpareFunction a f → management_from n (function_number a f) 0 (function_tag g f) ≡ Readable (Management n f)
+    (n a g : ℕ) (f : Function) → SpareFunction a f → management_from n (function_number a f) 0 (function_tag g f) ≡ Some (Management n f)
 management_back n a g (AbortTask t) s = refl
 management_back n a g AbortTaskSet s = refl
 management_back n a g ClearTaskSet s = refl
@@ -59,13 +59,13 @@ management_back n a g Unknown (inr h) =
     other : (k : ℕ) → k < 6 → eqb a k ≡ false
     other k l = ne_eqb a k (λ e. omega arith)
 
-condition_back : (h : Happening) → condition_from (happening_nexus h) (happening_number h) 0 0 ≡ Readable (Condition h)
+condition_back : (h : Happening) → condition_from (happening_nexus h) (happening_number h) 0 0 ≡ Some (Condition h)
 condition_back PowerOn = refl
 condition_back HardReset = refl
 condition_back (NexusLoss n) = refl
 
 -- an event record is read as its event, whatever stands in the places that the event does not keep
-pub event_back : (a g : ℕ) (v : Event) → Spare a v → event_of (event_record a g v) ≡ Readable v
+pub event_back : (a g : ℕ) (v : Event) → Spare a v → event_of (event_record a g v) ≡ Some v
 unfolding event_from
 event_back a g (Command c) s =
     line_read 1 c.nexus (asked_number a c.asked) (second_number c) c.tag
@@ -75,13 +75,13 @@ event_back a g (Management n f) s = line_read 3 n (function_number a f) 0 (funct
 event_back a g (Condition h) s = line_read 4 (happening_nexus h) (happening_number h) 0 0 ∙ condition_back h
 
 -- so every event has a record
-pub event_bytes_back : (v : Event) → event_of (event_bytes v) ≡ Readable v
+pub event_bytes_back : (v : Event) → event_of (event_bytes v) ≡ Some v
 unfolding event_bytes
 event_bytes_back v = event_back 7 0 v (seven v)
   where
-    seven_asked : (t : Asked) → SpareAttribute 7 t
-    seven_asked (Known t) = tt
-    seven_asked NoneOfFour = refl
+    seven_asked : (t : Option Attribute) → SpareAttribute 7 t
+    seven_asked (Some t) = tt
+    seven_asked None = refl
 
     seven_function : (f : Function) → SpareFunction 7 f
     seven_function (AbortTask t) = tt
@@ -104,18 +104,18 @@ abbrev Line : ℕ → ℕ → ℕ → ℕ → ℕ → Event → Type 0
 Line k n a b g v = Spare a v × (event_line k n a b g ≡ event_record a g v)
 
 -- the event is read only where the test holds
-read_if_lem : (P : Event → Type 0) {t : Bool} {x v : Event} → (t ≡ true → P x) → read_if t x ≡ Readable v → P v
+read_if_lem : (P : Event → Type 0) {t : Bool} {x v : Event} → (t ≡ true → P x) → read_if t x ≡ Some v → P v
 read_if_lem P {t = true} {x} {v} f e = let z : x ≡ v = cc in rw z at (f refl)
 read_if_lem P {t = false} f e = absurd (let z : ◌≡◌ {A = ℕ} 0 1 = cc in omega arith)
 
 asked_good : (a : ℕ) → SpareAttribute a (asked_from a) × (asked_number a (asked_from a) ≡ a)
 asked_good a =
-    cases (λ (t : Asked). SpareAttribute a t × (asked_number a t ≡ a)) (attribute_fits a) (λ q. (tt, attribute_good a q)) (λ q. (q, refl))
+    cases (λ (t : Option Attribute). SpareAttribute a t × (asked_number a t ≡ a)) (attribute_fits a) (λ q. (tt, attribute_good a q)) (λ q. (q, refl))
 
 second_good : (b : ℕ) → b < 4 → flag (bit_of b 1) + flag (bit_of b 2) * 2 ≡ b
 second_good b h = omega (arith, flag_good (b / 1 % 2) (omega arith), flag_good (b / 2 % 2) (omega arith))
 
-command_line : (n a b g : ℕ) (v : Event) → command_from n a b g ≡ Readable v → Line 1 n a b g v
+command_line : (n a b g : ℕ) (v : Event) → command_from n a b g ≡ Some v → Line 1 n a b g v
 command_line n a b g v =
     read_if_lem (Line 1 n a b g) (λ q. ((asked_good a).0, rw ((asked_good a).1, second_good b (ltb-true b 4 q))))
 
@@ -130,7 +130,7 @@ finish_good a e =
     Is : Finish → Type 0
     Is f = status_of f ≡ a
 
-completion_line : (n a b g : ℕ) (v : Event) → completion_from n a b g ≡ Readable v → Line 2 n a b g v
+completion_line : (n a b g : ℕ) (v : Event) → completion_from n a b g ≡ Some v → Line 2 n a b g v
 completion_line n a b g v =
     read_if_lem (Line 2 n a b g)
     (λ q.
@@ -164,7 +164,7 @@ function_good a g e =
         split (eqb a 0) (λ q. inl (eqb-true a 0 q))
         (λ q. inr (omega (arith, eqb-false a 0 q, eqb-false a 1 q1, eqb-false a 2 q2, eqb-false a 3 q3, eqb-false a 4 q4, eqb-false a 5 q5)))
 
-management_line : (n a b g : ℕ) (v : Event) → management_from n a b g ≡ Readable v → Line 3 n a b g v
+management_line : (n a b g : ℕ) (v : Event) → management_from n a b g ≡ Some v → Line 3 n a b g v
 management_line n a b g v =
     read_if_lem (Line 3 n a b g)
     (λ q.
@@ -187,7 +187,7 @@ happening_good n a e =
     no_nexus : eqb n 0 && true ≡ true → 0 ≡ n
     no_nexus h = sym (eqb-true n 0 (and-true _ _ h).0)
 
-condition_line : (n a b g : ℕ) (v : Event) → condition_from n a b g ≡ Readable v → Line 4 n a b g v
+condition_line : (n a b g : ℕ) (v : Event) → condition_from n a b g ≡ Some v → Line 4 n a b g v
 condition_line n a b g v =
     read_if_lem (Line 4 n a b g)
     (λ q.
@@ -196,7 +196,7 @@ condition_line n a b g v =
     let h = happening_good n a o.1 in
     (tt, rw (eqb-true b 0 z.0, eqb-true g 0 z.1, h.0, h.1)))
 
-event_line_lem : (k n a b g : ℕ) (v : Event) → event_from k n a b g ≡ Readable v → Line k n a b g v
+event_line_lem : (k n a b g : ℕ) (v : Event) → event_from k n a b g ≡ Some v → Line k n a b g v
 unfolding event_from
 event_line_lem k n a b g v =
     cases Is (eqb k 1) (λ q e. rw (eqb-true k 1 q) (command_line n a b g v e))
@@ -208,28 +208,28 @@ event_line_lem k n a b g v =
     cases Is (eqb k 4) (λ q e. rw (eqb-true k 4 q) (condition_line n a b g v e))
     (λ q4 e. absurd (let z : ◌≡◌ {A = ℕ} 0 1 = cc in omega arith)))))
   where
-    Is : EventRead → Type 0
-    Is r = r ≡ Readable v → Line k n a b g v
+    Is : Option Event → Type 0
+    Is r = r ≡ Some v → Line k n a b g v
 
 -- what is read off a record, field by field, is what its event writes
 pub event_fields :
-    (e : List ℕ) (v : Event) → event_of e ≡ Readable v
+    (e : List ℕ) (v : Event) → event_of e ≡ Some v
     → Spare (get_or e 4 0) v
     × (event_line (get_or e 2 0) (get_or e 3 0) (get_or e 4 0) (get_or e 5 0) (tag_in e) ≡ event_record (get_or e 4 0) (tag_in e) v)
 unfolding event_of
 event_fields e v =
-    cases (λ (r : EventRead). r ≡ Readable v → Line (get_or e 2 0) (get_or e 3 0) (get_or e 4 0) (get_or e 5 0) (tag_in e) v)
+    cases (λ (r : Option Event). r ≡ Some v → Line (get_or e 2 0) (get_or e 3 0) (get_or e 4 0) (get_or e 5 0) (tag_in e) v)
     (eqb (length e) event_size && marked e 0x56)
     (λ q r. event_line_lem _ _ _ _ _ v r)
     (λ q r. absurd (let z : ◌≡◌ {A = ℕ} 0 1 = cc in omega arith))
 
 -- RULES 16.6: every string of bytes that is read is the record of its event, with its own first and tag
 pub event_is_written :
-    (e : List ℕ) (v : Event) → Bytes e → event_of e ≡ Readable v
+    (e : List ℕ) (v : Event) → Bytes e → event_of e ≡ Some v
     → Spare (get_or e 4 0) v × (e ≡ event_record (get_or e 4 0) (tag_in e) v)
 unfolding event_of
 event_is_written e v by =
-    cases (λ (r : EventRead). r ≡ Readable v → Spare a v × (e ≡ event_record a g v)) (eqb (length e) event_size && marked e 0x56)
+    cases (λ (r : Option Event). r ≡ Some v → Spare a v × (e ≡ event_record a g v)) (eqb (length e) event_size && marked e 0x56)
     (λ q r.
     let o = and-true _ _ q in
     let m = and-true _ _ o.1 in
@@ -249,17 +249,17 @@ event_is_written e v by =
         ∙ rw (m, n, tag_good (λ i. get_or e i 0) by)
 
 -- RULES 16.6: answer 3 exactly where the bytes are no event record
-pub bad_event_says : (e : List ℕ) → Bytes e → (event_of e ≡ Unreadable) ↔ (IsEvent e → ⊥)
+pub bad_event_says : (e : List ℕ) → Bytes e → (event_of e ≡ None) ↔ (IsEvent e → ⊥)
 bad_event_says e by = (to, λ h. from h (event_of e) refl)
   where
-    to : event_of e ≡ Unreadable → IsEvent e → ⊥
+    to : event_of e ≡ None → IsEvent e → ⊥
     to u i =
-        let r : event_of e ≡ Readable i.event = ap event_of i.written ∙ event_back i.first i.tag i.event i.spare in
+        let r : event_of e ≡ Some i.event = ap event_of i.written ∙ event_back i.first i.tag i.event i.spare in
         let z : ◌≡◌ {A = ℕ} 0 1 = cc in
         omega arith
 
-    from : (IsEvent e → ⊥) → (r : EventRead) → event_of e ≡ r → event_of e ≡ Unreadable
-    from h (Readable v) q =
+    from : (IsEvent e → ⊥) → (r : Option Event) → event_of e ≡ r → event_of e ≡ None
+    from h (Some v) q =
         let w = event_is_written e v by q in
         absurd (h (record { event = v; first = get_or e 4 0; tag = tag_in e; spare = w.0; written = w.1 }))
-    from h Unreadable q = q
+    from h None q = q

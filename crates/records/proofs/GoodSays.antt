@@ -1,4 +1,5 @@
 -- The writing of a well-formed state is a good table; and the test of a good table holds exactly if the statement does (RULES 17.3).
+use Rattle.std.specs.Prelude.{Some, None}
 use Prim.Native.Nat.{ℕ, zero, suc, ◌+◌, ◌-◌, ◌*◌, ◌≤◌, ◌<◌}
 use mathlib.Core.Bool.{Bool, true, false, ◌&&◌}
 use mathlib.Core.Path.{◌≡◌, refl, ap, sym, ◌∙◌}
@@ -21,7 +22,7 @@ use Rattle.rules.specs.Rulings.{State}
 use Rattle.rules.specs.Well.{WellFormed, fault_fits, too_high}
 use Rattle.rules.proofs.WellKept.{Tested, from_tested}
 use Rattle.rules.proofs.WellSays.{well_formed_says, says_tested}
-use Rattle.rules.specs.Types.{TaskState, Dormant, Enabled, Blocked, Task, Qerr, EndNone, EndAll, EndNexus, Policy, Allegiance, Clear, Faulted, Pending, Header}
+use Rattle.rules.specs.Types.{TaskState, Dormant, Enabled, Blocked, Task, Qerr, EndNone, EndAll, EndNexus, Policy, Allegiance, Pending, Header}
 use Rattle.records.specs.Numbers.{flag, state_number, state_fits, aca_number, policy_number, policy_fits}
 use Rattle.records.specs.Records.{header_bytes, header_fits, nexus_fits, task_bytes, task_fits, unused_fits}
 use Rattle.records.specs.Tables.{Bytes, count_in, state_of, nexus_records, unused_records, task_records, counts_of, table_bytes, GoodTable, nexuses_fit, tasks_fit, unused_fit, good_table}
@@ -43,8 +44,8 @@ policy_fits_lem p = go p.qerr p.tas
     go EndNexus false = refl
 
 aca_fits : (a : Allegiance) → fault_fits a ≡ true → aca_number a ≤ nexuses
-aca_fits Clear e = omega arith
-aca_fits (Faulted f) e = omega (arith, ltb-true f nexuses e)
+aca_fits None e = omega arith
+aca_fits (Some f) e = omega (arith, ltb-true f nexuses e)
 
 header_fits_lem : (h : Header) → h.count ≤ places → fault_fits h.aca ≡ true → h.run ≤ most_run → header_fits (header_bytes h) ≡ true
 header_fits_lem h c f r =

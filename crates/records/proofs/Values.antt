@@ -1,4 +1,5 @@
 -- A value's number gives the value back, and a good number its value's number.
+use Rattle.std.specs.Prelude.{Some, None}
 use Prim.Native.Nat.{ℕ, zero, suc, ◌+◌, ◌-◌, ◌%◌, ◌<◌, ◌≤◌}
 use mathlib.Core.Bool.{Bool, true, false, ◌||◌, ◌&&◌, not}
 use mathlib.Core.Path.{◌≡◌, refl, sym}
@@ -6,7 +7,7 @@ use native.Mathlib.Omega.{arith}
 use lib.Dec.{eqb, ltb}
 use borrow.Author.Tests.{eqb-true, eqb-false, ne_eqb, ltb-true}
 use Rattle.laws.proofs.Bools.{and-true, or-true, not_both, split}
-use Rattle.rules.specs.Types.{Attribute, Simple, HeadOfQueue, Ordered, Aca, TaskState, Dormant, Enabled, Blocked, Qerr, EndNone, EndAll, EndNexus, Policy, Allegiance, Clear, Faulted, Pending}
+use Rattle.rules.specs.Types.{Attribute, Simple, HeadOfQueue, Ordered, Aca, TaskState, Dormant, Enabled, Blocked, Qerr, EndNone, EndAll, EndNexus, Policy, Allegiance, Pending}
 use Rattle.records.specs.Numbers.{flag, attribute_number, attribute_fits, attribute_from, state_number, state_fits, state_from, aca_number, aca_from, policy_number, policy_fits, policy_from, pending_number, pending_fits, pending_from}
 
 -- Tests that are computed once -------------------------------------------------------------------------------------------------------------
@@ -63,8 +64,8 @@ flag_back true = refl
 flag_back false = refl
 
 pub aca_back : (a : Allegiance) → aca_from (aca_number a) ≡ a
-aca_back Clear = refl
-aca_back (Faulted f) =
+aca_back None = refl
+aca_back (Some f) =
     rw (ne_eqb (f + 1) 0 (λ e. omega arith), (let z : f + 1 - 1 ≡ f = omega arith in z))
 
 pub policy_back : (p : Policy) → policy_from (policy_number p) ≡ p

@@ -10,27 +10,26 @@
 --   event_bytes v        := one record of the event v
 --   Spare a v           := a may stand for the field first in a record of v; asked only where v does not keep it
 --   IsEvent bytes       := the bytes are the record of an event
-use Rattle.std.specs.Prelude.{ℕ, ◌+◌, ◌-◌, ◌*◌, ◌/◌, ◌<◌, ◌≡◌, ◌⊎◌, Bool, true, false, cond, ◌||◌, ◌&&◌, List, ◌∷◌, eqb, ltb, length, get_or}
-use Rattle.rules.specs.Types.{Asked, Entry, Finish, Function, Happening, Event}
+use Rattle.std.specs.Prelude.{ℕ, ◌+◌, ◌-◌, ◌*◌, ◌/◌, ◌<◌, ◌≡◌, ◌⊎◌, Bool, true, false, cond, ◌||◌, ◌&&◌, List, ◌∷◌, eqb, ltb, length, get_or, Option, Some, None}
+use Rattle.rules.specs.Types.{Entry, Finish, Function, Happening, Event, Attribute}
 use Rattle.rules.specs.Rules.{status_of}
 use Rattle.octets.specs.Sizes.{kind_offset, sender_offset, first_offset, second_offset}
-use Rattle.records.specs.Types.{EventRead}
 use Rattle.records.specs.Numbers.{flag, bit_of, tag_in, tag_bytes, attribute_number, attribute_fits, attribute_from}
 use Rattle.records.specs.Records.{event_size, marked}
 
 -- Reading ----------------------------------------------------------------------------------------------------------------------------------
 
 -- RULES 16.6: an event, or a bad one
-abbrev pub read_if : Bool → Event → EventRead
-read_if true e = EventRead.Readable e
-read_if false e = EventRead.Unreadable
+abbrev pub read_if : Bool → Event → Option Event
+read_if true e = Some e
+read_if false e = None
 
 -- RULES 16.1: the attribute, of which any byte is taken
-abbrev pub asked_from : ℕ → Asked
-asked_from a = cond (attribute_fits a) (Asked.Known (attribute_from a)) Asked.NoneOfFour
+abbrev pub asked_from : ℕ → Option Attribute
+asked_from a = cond (attribute_fits a) (Some (attribute_from a)) None
 
 -- RULES 16.1: COMMAND
-abbrev pub command_from : ℕ → ℕ → ℕ → ℕ → EventRead
+abbrev pub command_from : ℕ → ℕ → ℕ → ℕ → Option Event
 command_from n a b g =
     read_if (ltb b 4) (Event.Command (record { nexus = n; asked = asked_from a; naca = bit_of b 1; exempt = bit_of b 2; tag = g }))
 
@@ -39,7 +38,7 @@ abbrev pub finish_from : ℕ → Finish
 finish_from a = cond (eqb a 0x00) Finish.Good (cond (eqb a 0x02) Finish.CheckCondition (cond (eqb a 0x08) Finish.Busy Finish.ReservationConflict))
 
 -- RULES 16.2: COMPLETION
-abbrev pub completion_from : ℕ → ℕ → ℕ → ℕ → EventRead
+abbrev pub completion_from : ℕ → ℕ → ℕ → ℕ → Option Event
 completion_from n a b g =
     read_if ((eqb a 0x00 || eqb a 0x02 || eqb a 0x08 || eqb a 0x18) && eqb b 0) (Event.Completion n g (finish_from a))
 
@@ -51,7 +50,7 @@ function_from a g =
     (cond (eqb a 3) Function.ClearTaskSet (cond (eqb a 4) Function.ClearAca (cond (eqb a 5) Function.LogicalUnitReset Function.Unknown))))
 
 -- RULES 16.3: MANAGEMENT
-abbrev pub management_from : ℕ → ℕ → ℕ → ℕ → EventRead
+abbrev pub management_from : ℕ → ℕ → ℕ → ℕ → Option Event
 management_from n a b g = read_if (eqb b 0 && (ltb a 2 || ltb 5 a || eqb g 0)) (Event.Management n (function_from a g))
 
 -- RULES 16.4: the condition
@@ -59,22 +58,22 @@ abbrev pub happening_from : ℕ → ℕ → Happening
 happening_from n a = cond (eqb a 1) Happening.PowerOn (cond (eqb a 2) Happening.HardReset (Happening.NexusLoss n))
 
 -- RULES 16.4 and 16.5: CONDITION
-abbrev pub condition_from : ℕ → ℕ → ℕ → ℕ → EventRead
+abbrev pub condition_from : ℕ → ℕ → ℕ → ℕ → Option Event
 condition_from n a b g =
     read_if (eqb b 0 && eqb g 0 && (eqb a 3 || (eqb n 0 && (eqb a 1 || eqb a 2)))) (Event.Condition (happening_from n a))
 
 -- RULES 16.1 to 16.5: by kind
-unfoldable pub event_from : ℕ → ℕ → ℕ → ℕ → ℕ → EventRead
+unfoldable pub event_from : ℕ → ℕ → ℕ → ℕ → ℕ → Option Event
 event_from k n a b g =
     cond (eqb k 1) (command_from n a b g)
-    (cond (eqb k 2) (completion_from n a b g) (cond (eqb k 3) (management_from n a b g) (cond (eqb k 4) (condition_from n a b g) EventRead.Unreadable)))
+    (cond (eqb k 2) (completion_from n a b g) (cond (eqb k 3) (management_from n a b g) (cond (eqb k 4) (condition_from n a b g) None)))
 
 -- RULES 16.6: by length and mark
-unfoldable pub event_of : List ℕ → EventRead
+unfoldable pub event_of : List ℕ → Option Event
 event_of e =
     cond (eqb (length e) event_size && marked e 0x56)
     (event_from (get_or e kind_offset 0) (get_or e sender_offset 0) (get_or e first_offset 0) (get_or e second_offset 0) (tag_in e))
-    EventRead.Unreadable
+    None
 
 -- RULES 24.3 and 24.4: every eighth byte, and a last piece
 abbrev pub pieces : ℕ → ℕ
@@ -87,9 +86,9 @@ abbrev pub event_line : ℕ → ℕ → ℕ → ℕ → ℕ → List ℕ
 event_line k n a b g = 0x54 ∷ 0x56 ∷ k ∷ n ∷ a ∷ b ∷ tag_bytes g
 
 -- RULES 16.1: of an attribute that is none of the four the event does not keep which
-abbrev pub asked_number : ℕ → Asked → ℕ
-asked_number a (Asked.Known t) = attribute_number t
-asked_number a Asked.NoneOfFour = a
+abbrev pub asked_number : ℕ → Option Attribute → ℕ
+asked_number a (Some t) = attribute_number t
+asked_number a None = a
 
 -- RULES 16.1: NACA and exempt
 abbrev pub second_number : Entry → ℕ
@@ -137,9 +136,9 @@ unfoldable pub event_bytes : Event → List ℕ
 event_bytes v = event_record 7 0 v
 
 -- RULES 16.1: none of the four attributes
-abbrev pub SpareAttribute : ℕ → Asked → Type 0
-SpareAttribute a (Asked.Known t) = Unit {0}
-SpareAttribute a Asked.NoneOfFour = attribute_fits a ≡ false
+abbrev pub SpareAttribute : ℕ → Option Attribute → Type 0
+SpareAttribute a (Some t) = Unit {0}
+SpareAttribute a None = attribute_fits a ≡ false
 
 -- RULES 16.3: an unknown function
 abbrev pub SpareFunction : ℕ → Function → Type 0

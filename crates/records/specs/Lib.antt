@@ -1,4 +1,3 @@
-pub mod Types
 pub mod Numbers
 pub mod Records
 pub mod Events

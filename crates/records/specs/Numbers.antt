@@ -4,7 +4,7 @@
 --   attribute_from, state_from, aca_from, policy_from, pending_from   := the value of a byte; of one that the tests refuse, any
 --   attribute_fits, state_fits, policy_fits, pending_fits   := the byte has a value
 --   flag, bit_of, tag_in, tag_bytes := passed on from octets/specs/Bytes
-use Rattle.std.specs.Prelude.{ℕ, ◌+◌, ◌-◌, ◌*◌, ◌%◌, Bool, cond, ◌||◌, ◌&&◌, not, eqb, ltb}
+use Rattle.std.specs.Prelude.{ℕ, ◌+◌, ◌-◌, ◌*◌, ◌%◌, Bool, cond, ◌||◌, ◌&&◌, not, eqb, ltb, Some, None}
 pub use Rattle.octets.specs.Bytes.{flag, bit_of, tag_in, tag_bytes}
 use Rattle.rules.specs.Types.{Attribute, TaskState, Qerr, Policy, Allegiance, Pending}
 
@@ -35,11 +35,11 @@ state_from n = cond (eqb n 1) TaskState.Dormant (cond (eqb n 2) TaskState.Enable
 
 -- RULES 14.3
 abbrev pub aca_number : Allegiance → ℕ
-aca_number Allegiance.Clear = 0
-aca_number (Allegiance.Faulted f) = f + 1
+aca_number None = 0
+aca_number (Some f) = f + 1
 
 abbrev pub aca_from : ℕ → Allegiance
-aca_from n = cond (eqb n 0) Allegiance.Clear (Allegiance.Faulted (n - 1))
+aca_from n = cond (eqb n 0) None (Some (n - 1))
 
 -- RULES 14.4
 abbrev pub qerr_number : Qerr → ℕ

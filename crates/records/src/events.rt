@@ -1,71 +1,49 @@
 // RULES 16: an event record decoded to an event or a refusal.
-ghost use Rattle.std.specs.Prelude.{◌≡◌};
-ghost use Rattle.records.specs.Events.{read_if, asked_from, command_from, finish_from, completion_from, function_from, management_from, happening_from, condition_from, event_from, event_of};
+ghost use Rattle.std.specs.Prelude.{◌≡◌, cond, ◌||◌, ◌&&◌, eqb, Some, None};
+ghost use Rattle.records.specs.Events.{asked_from, command_from, finish_from, completion_from, function_from, management_from, happening_from, condition_from, event_from, event_of};
 
 use crate::tasks::{attribute_fits, attribute_from};
+use octets::records::get_tagged;
 use octets::sizes::{EVENT_SIZE, FIRST_OFFSET, KIND_OFFSET, SECOND_OFFSET, SENDER_OFFSET};
-use octets::tagged::get_tagged;
 use octets::{bit_of, is_mark, tag_in};
-use values::{Asked, Entry, Event, Finish, Function, Happening, Tag};
+use values::{Attribute, Entry, Event, Finish, Function, Happening, Tag};
 
-#[derive(Clone, Copy)]
-pub enum EventRead {
-    Readable(Event),
-    Unreadable,
-}
-
-fn read_if(good: bool, e: Event) -> EventRead
-    ensures { result ≡ read_if good e }
-{
-    if good {
-        EventRead::Readable(e)
-    } else {
-        EventRead::Unreadable
-    }
-}
-
-fn asked_from(a: u8) -> Asked
+// Kept (docs/DESIGN-PASS.md, 4): as in tasks.rt.
+fn asked_from(a: u8) -> Option<Attribute>
     ensures { result ≡ asked_from a }
 {
-    if attribute_fits(a) {
-        return Asked::Known(attribute_from(a));
-    }
-    Asked::NoneOfFour
+    attribute_fits(a).then_some(attribute_from(a))
 }
 
-fn command_from(n: u8, a: u8, b: u8, g: Tag) -> EventRead
+fn command_from(n: u8, a: u8, b: u8, g: Tag) -> Option<Event>
     ensures { result ≡ command_from n a b g }
 {
-    read_if(
-        b < 4,
-        Event::Command(Entry {
-            nexus: n,
-            asked: asked_from(a),
-            naca: bit_of(b, 1),
-            exempt: bit_of(b, 2),
-            tag: g,
-        }),
-    )
+    (b < 4).then_some(Event::Command(Entry {
+        nexus: n,
+        asked: asked_from(a),
+        naca: bit_of(b, 1),
+        exempt: bit_of(b, 2),
+        tag: g,
+    }))
 }
 
-fn finish_from(a: u8) -> Finish
-    ensures { result ≡ finish_from a }
+fn finish_from(a: u8) -> Option<Finish>
+    ensures { result ≡ cond (eqb a 0x00 || eqb a 0x02 || eqb a 0x08 || eqb a 0x18) (Some (finish_from a)) None }
 {
     match a {
-        0x00 => Finish::Good,
-        0x02 => Finish::CheckCondition,
-        0x08 => Finish::Busy,
-        _ => Finish::ReservationConflict,
+        0x00 => Some(Finish::Good),
+        0x02 => Some(Finish::CheckCondition),
+        0x08 => Some(Finish::Busy),
+        0x18 => Some(Finish::ReservationConflict),
+        _ => None,
     }
 }
 
-fn completion_from(n: u8, a: u8, b: u8, g: Tag) -> EventRead
+fn completion_from(n: u8, a: u8, b: u8, g: Tag) -> Option<Event>
     ensures { result ≡ completion_from n a b g }
 {
-    read_if(
-        ((a == 0x00) | (a == 0x02) | (a == 0x08) | (a == 0x18)) & (b == 0),
-        Event::Completion(n, g, finish_from(a)),
-    )
+    let finish = finish_from(a)?;
+    (b == 0).then_some(Event::Completion(n, g, finish))
 }
 
 fn function_from(a: u8, g: Tag) -> Function
@@ -81,35 +59,33 @@ fn function_from(a: u8, g: Tag) -> Function
     }
 }
 
-fn management_from(n: u8, a: u8, b: u8, g: Tag) -> EventRead
+fn management_from(n: u8, a: u8, b: u8, g: Tag) -> Option<Event>
     ensures { result ≡ management_from n a b g }
 {
-    read_if(
-        (b == 0) & ((a < 2) | (5 < a) | (g == 0)),
-        Event::Management(n, function_from(a, g)),
-    )
+    ((b == 0) & ((a < 2) | (5 < a) | (g == 0))).then_some(Event::Management(n, function_from(a, g)))
 }
 
-fn happening_from(n: u8, a: u8) -> Happening
-    ensures { result ≡ happening_from n a }
+// Power on and hard reset have no nexus.
+fn happening_from(n: u8, a: u8) -> Option<Happening>
+    ensures { result ≡ cond (eqb a 3 || (eqb n 0 && (eqb a 1 || eqb a 2))) (Some (happening_from n a)) None }
 {
     match a {
-        1 => Happening::PowerOn,
-        2 => Happening::HardReset,
-        _ => Happening::NexusLoss(n),
+        1 if n == 0 => Some(Happening::PowerOn),
+        2 if n == 0 => Some(Happening::HardReset),
+        3 => Some(Happening::NexusLoss(n)),
+        _ => None,
     }
 }
 
-fn condition_from(n: u8, a: u8, b: u8, g: Tag) -> EventRead
+fn condition_from(n: u8, a: u8, b: u8, g: Tag) -> Option<Event>
     ensures { result ≡ condition_from n a b g }
 {
-    read_if(
-        (b == 0) & (g == 0) & ((a == 3) | ((n == 0) & ((a == 1) | (a == 2)))),
-        Event::Condition(happening_from(n, a)),
-    )
+    let happening = happening_from(n, a)?;
+    ((b == 0) & (g == 0)).then_some(Event::Condition(happening))
 }
 
-fn event_from(k: u8, n: u8, a: u8, b: u8, g: Tag) -> EventRead
+#[tactic(auto, unfolding(crate::specs::Events::event_from))]
+fn event_from(k: u8, n: u8, a: u8, b: u8, g: Tag) -> Option<Event>
     ensures { result ≡ event_from k n a b g }
 {
     match k {
@@ -117,20 +93,20 @@ fn event_from(k: u8, n: u8, a: u8, b: u8, g: Tag) -> EventRead
         2 => completion_from(n, a, b, g),
         3 => management_from(n, a, b, g),
         4 => condition_from(n, a, b, g),
-        _ => EventRead::Unreadable,
+        _ => None,
     }
 }
 
 // Whatever the bytes and however many.
-pub fn event_of(e: &[u8]) -> EventRead
+pub fn event_of(e: &[u8]) -> Option<Event>
     ensures { result ≡ event_of e.now }
 {
     if e.len() != EVENT_SIZE {
-        return EventRead::Unreadable;
+        return None;
     }
     let r = get_tagged(e, 0);
     if !is_mark(r[0], r[1], 0x56) {
-        return EventRead::Unreadable;
+        return None;
     }
     event_from(
         r[KIND_OFFSET],

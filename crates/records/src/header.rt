@@ -2,13 +2,14 @@
 ghost use Rattle.std.specs.Prelude.{◌≡◌, ◌+◌, ◌≤◌, true, length};
 ghost use Rattle.rules.specs.Well.{fault_fits};
 ghost use Rattle.laws.specs.RecordsInLists.{record_at};
-ghost use Rattle.records.specs.Numbers.{aca_number, aca_from, qerr_number, qerr_from, policy_number, policy_fits, policy_from};
+ghost use Rattle.records.specs.Numbers.{aca_number, aca_from, qerr_from, policy_number, policy_fits, policy_from};
 ghost use Rattle.records.specs.Records.{head_size, header_bytes, header_from, header_fits};
 
 use octets::sizes::{ACA_OFFSET, COUNT_OFFSET, HEAD_SIZE, POLICY_OFFSET, RUN_OFFSET};
 use octets::{bit_of, flag_byte, is_mark};
-use values::{Allegiance, Header, MOST_TASKS, NEXUS_BOUND, Policy, Qerr};
+use values::{Header, MOST_TASKS, NEXUS_BOUND, Policy, Qerr};
 
+// Kept (docs/DESIGN-PASS.md, 4): as in tasks.rt.
 pub fn policy_fits(n: u8) -> bool
     ensures { result ≡ policy_fits n }
 {
@@ -34,40 +35,25 @@ pub fn policy_from(n: u8) -> Policy
     }
 }
 
-fn qerr_number(q: Qerr) -> u8
-    ensures { (result ≡ qerr_number q) × (result ≤ 3) }
-{
-    match q {
-        Qerr::EndNone => 0,
-        Qerr::EndAll => 1,
-        Qerr::EndNexus => 3,
-    }
-}
-
 pub fn policy_number(p: Policy) -> u8
     ensures { result ≡ policy_number p }
 {
-    let q = p.qerr;
-    qerr_number(q) + flag_byte(p.tas) * 4
+    p.qerr as u8 + flag_byte(p.tas) * 4
 }
 
-fn aca_from(n: u8) -> Allegiance
+fn aca_from(n: u8) -> Option<u8>
     ensures { result ≡ aca_from n }
 {
-    if n == 0 {
-        Allegiance::Clear
-    } else {
-        Allegiance::Faulted(n - 1)
-    }
+    n.checked_sub(1)
 }
 
-pub fn aca_number(a: Allegiance) -> u8
+pub fn aca_number(a: Option<u8>) -> u8
     requires { fault_fits a ≡ true }
     ensures { result ≡ aca_number a }
 {
     match a {
-        Allegiance::Clear => 0,
-        Allegiance::Faulted(f) => f + 1,
+        None => 0,
+        Some(f) => f + 1,
     }
 }
 
@@ -100,15 +86,13 @@ pub fn header_bytes(h: Header) -> [u8; HEAD_SIZE]
     requires { fault_fits h.aca ≡ true }
     ensures { result ≡ header_bytes h }
 {
-    let policy = h.policy;
-    let aca = h.aca;
     [
         0x54,
         0x48,
         1,
-        policy_number(policy),
+        policy_number(h.policy),
         h.count,
-        aca_number(aca),
+        aca_number(h.aca),
         h.run,
         0,
     ]

@@ -7,6 +7,7 @@ use octets::sizes::NEXUS_SIZE;
 use octets::{bit_of, flag_byte, word_of};
 use values::Pending;
 
+// Kept (docs/DESIGN-PASS.md, 4): as in tasks.rt.
 pub fn pending_from(n: u8) -> Pending
     ensures { result ≡ pending_from n }
 {

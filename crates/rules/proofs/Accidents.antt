@@ -1,16 +1,17 @@
 -- What must never happen, on small cases: each is computed, so that a rule that breaks it shows the wrong value.
+use Rattle.std.specs.Prelude.{Option, Some, None}
 use Prim.Native.Nat.{ℕ, zero, suc}
 use mathlib.Core.Bool.{Bool, true, false}
 use mathlib.Core.Path.{◌≡◌, refl}
 use mathlib.Core.List.{List, [], ◌∷◌, ◌++◌, map}
-use Rattle.rules.specs.Types.{Attribute, Simple, HeadOfQueue, Ordered, TaskState, Dormant, Enabled, Task, Known, Event, Command, Completion, Good, CheckCondition, Management, AbortTask, AbortTaskSet, ClearTaskSet, Pending, EndNone, Clear, Ended, Turn, Names}
+use Rattle.rules.specs.Types.{Attribute, Simple, HeadOfQueue, Ordered, TaskState, Dormant, Enabled, Task, Event, Command, Completion, Good, CheckCondition, Management, AbortTask, AbortTaskSet, ClearTaskSet, Pending, EndNone, Ended, Named}
 use Rattle.rules.specs.Tasks.{whose_turn, turn_of}
 use Rattle.rules.specs.Rulings.{State, fresh}
 use Rattle.rules.specs.Rules.{ended_with, new_task, enter, complete, manage, rule_for, ruling, step, answer, report}
 
 -- exempt, so that no pending bit stands in the way
 abbrev pub command : ℕ → ℕ → Attribute → Bool → Event
-command n g a naca = Command (record { nexus = n; asked = Known a; naca = naca; exempt = true; tag = g })
+command n g a naca = Command (record { nexus = n; asked = Some a; naca = naca; exempt = true; tag = g })
 
 abbrev from : State → List Event → State
 from s [] = s
@@ -22,8 +23,8 @@ fresh00 = fresh (record { qerr = EndNone; tas = false })
 abbrev states : State → List TaskState
 states s = map (λ (t : Task). t.state) s.tasks
 
-abbrev names : ℕ → State → Turn
-names run s = turn_of (whose_turn Clear run s.tasks)
+abbrev names : ℕ → State → Option Named
+names run s = turn_of (whose_turn None run s.tasks)
 
 abbrev case_b : List Event
 case_b = command 0 1 Simple false ∷ command 1 1 Ordered false ∷ command 0 2 Simple false ∷ []
@@ -46,11 +47,11 @@ unfolding fresh whose_turn new_task enter complete rule_for ruling step
 simple_stays_enabled = refl
 
 -- the oldest HEAD OF QUEUE task is named, and after four the SIMPLE one
-pub oldest_head_named : names 3 (from fresh00 case_c) ≡ Names (record { nexus = 1; tag = 1 })
+pub oldest_head_named : names 3 (from fresh00 case_c) ≡ Some (record { nexus = 1; tag = 1 })
 unfolding fresh whose_turn new_task enter complete rule_for ruling step
 oldest_head_named = refl
 
-pub simple_named_at_four : names 4 (from fresh00 case_c) ≡ Names (record { nexus = 0; tag = 1 })
+pub simple_named_at_four : names 4 (from fresh00 case_c) ≡ Some (record { nexus = 0; tag = 1 })
 unfolding fresh whose_turn new_task enter complete rule_for ruling step
 simple_named_at_four = refl
 

@@ -1,4 +1,5 @@
 -- Laws of a command that ends at entry, for every state: what becomes of each task, of the ACA, of run and of the report (RULES 5.16 to 5.20).
+use Rattle.std.specs.Prelude.{Option, Some, None}
 use Prim.Native.Nat.{ℕ}
 use mathlib.Core.Bool.{Bool, true, false, cond, ◌||◌, ◌&&◌, not, and-false as and_off, or-true as or_on}
 use mathlib.Core.Path.{◌≡◌, refl, ap, sym, ◌∙◌}
@@ -9,7 +10,7 @@ use borrow.Author.Tests.{eqb-true, eqb-false, not-false}
 use Rattle.laws.specs.Lists.{any, passing}
 use Rattle.laws.proofs.Bools.{cases, split}
 use Rattle.laws.proofs.Lists.{any_less, map_alike}
-use Rattle.rules.specs.Types.{TaskState, Dormant, Enabled, Blocked, Task, Entry, Command, Qerr, EndNone, EndAll, EndNexus, Policy, Allegiance, Clear, Faulted, Top, NoBit, Highest, Fate, Stays, Ends, Ended, Sweep, Nobody, NexusTasks, Sense, Done, NexusAboveSeven, EndedAtEntry, Ruling, Changes}
+use Rattle.rules.specs.Types.{TaskState, Dormant, Enabled, Blocked, Task, Entry, Command, Qerr, EndNone, EndAll, EndNexus, Policy, Allegiance, Fate, Ended, Sweep, Nobody, NexusTasks, Sense, Done, NexusAboveSeven, EndedAtEntry, Ruling, Changes, Bit}
 use Rattle.rules.specs.Tasks.{nexuses, aca_task, of_nexus, same, is_enabled, blocked_if_enabled, restate, enabled_task}
 use Rattle.rules.specs.Rulings.{State, is_clear, pending_of, end_if, kept, lost, also_by_qerr, fate_by_qerr, fate_of, fates_of, answer_of, ruled, ended_from, report_of, task_name}
 use Rattle.rules.specs.Rules.{aca_by_naca, check_condition, rule_for, ruling, step, answer, report}
@@ -22,8 +23,8 @@ use Rattle.rules.proofs.Cases.{stop, check_cases, failing_cases}
 -- RULES 5.2, 5.16 and 5.18: one task, where the command c ends with 02h: by check 1, and else by QERR, as beside a task that fails, where no ACA is in effect
 abbrev pub fate_at_entry : State → Entry → Task → Fate
 fate_at_entry s c t =
-    cond (any (same c.nexus c.tag) s.tasks && of_nexus c.nexus t) (Ends 0xFF)
-    (cond (is_clear s.header.aca) (fate_by_qerr s.header.policy.qerr s.header.policy c.nexus t) Stays)
+    cond (any (same c.nexus c.tag) s.tasks && of_nexus c.nexus t) (Some 0xFF)
+    (cond (is_clear s.header.aca) (fate_by_qerr s.header.policy.qerr s.header.policy c.nexus t) None)
 
 -- RULES 5.17 and 5.18: the allegiance then
 abbrev pub aca_at_entry : State → Entry → Allegiance
@@ -40,34 +41,34 @@ pub record FailsAs (s : State) (c : Entry) (r : Ruling) : Type 0 where
 abbrev own_sweep : Bool → ℕ → Sweep
 own_sweep overlapped n = cond overlapped (NexusTasks n) Nobody
 
-if_ends : (b : Bool) → cond b (Ends 0xFF) Stays ≡ end_if b 0xFF
+if_ends : (b : Bool) → cond b (Some 0xFF) None ≡ end_if b 0xFF
 if_ends true = refl
 if_ends false = refl
 
-own_fate : (overlapped : Bool) (n : ℕ) (t : Task) → fate_of (own_sweep overlapped n) t ≡ cond (overlapped && of_nexus n t) (Ends 0xFF) Stays
+own_fate : (overlapped : Bool) (n : ℕ) (t : Task) → fate_of (own_sweep overlapped n) t ≡ cond (overlapped && of_nexus n t) (Some 0xFF) None
 own_fate true n t = sym (if_ends (of_nexus n t))
 own_fate false n t = refl
 
 -- check 1 and QERR together: the tasks of the command's nexus end with FFh, whatever QERR is, and QERR adds the others
 pub also_fate :
     (q : Qerr) (p : Policy) (overlapped : Bool) (n : ℕ) (t : Task)
-    → fate_of (also_by_qerr q p n (own_sweep overlapped n)) t ≡ cond (overlapped && of_nexus n t) (Ends 0xFF) (fate_by_qerr q p n t)
+    → fate_of (also_by_qerr q p n (own_sweep overlapped n)) t ≡ cond (overlapped && of_nexus n t) (Some 0xFF) (fate_by_qerr q p n t)
 also_fate EndNone p overlapped n t = own_fate overlapped n t
 also_fate EndAll p true n t = go (of_nexus n t)
   where
-    go : (b : Bool) → Ends (cond (not b && p.tas) 0x40 0xFF) ≡ cond b (Ends 0xFF) (Ends (cond (not b && p.tas) 0x40 0xFF))
+    go : (b : Bool) → ◌≡◌ {A = Fate} (Some (cond (not b && p.tas) 0x40 0xFF)) (cond b (Some 0xFF) (Some (cond (not b && p.tas) 0x40 0xFF)))
     go true = refl
     go false = refl
 also_fate EndAll p false n t = refl
 also_fate EndNexus p true n t = go (of_nexus n t)
   where
-    go : (b : Bool) → end_if b 0xFF ≡ cond b (Ends 0xFF) (end_if b 0xFF)
+    go : (b : Bool) → end_if b 0xFF ≡ cond b (Some 0xFF) (end_if b 0xFF)
     go true = refl
     go false = refl
 also_fate EndNexus p false n t = refl
 
 fails_as :
-    (s : State) (c : Entry) (se : Sense) (overlapped : Bool) (o : Top) → any (same c.nexus c.tag) s.tasks ≡ overlapped
+    (s : State) (c : Entry) (se : Sense) (overlapped : Bool) (o : Option Bit) → any (same c.nexus c.tag) s.tasks ≡ overlapped
     → FailsAs s c (check_condition s.header c se (own_sweep overlapped c.nexus) o)
 fails_as s c se overlapped o here =
     failing_cases (λ d. FailsAs s c (Changes (EndedAtEntry 0x02 se) d)) s.header c (own_sweep overlapped c.nexus) o
@@ -102,10 +103,10 @@ refused_with_02 s c se =
     (λ l.
     check_cases (λ r. answer_of r ≡ EndedAtEntry 0x02 se → FailsAs s c r) s.header c (any (same c.nexus c.tag) s.tasks) (any aca_task s.tasks)
     (pending_of s c.nexus)
-    (stop (λ y e. fails_as s c _ true NoBit y) λ n1.
+    (stop (λ y e. fails_as s c _ true None y) λ n1.
     stop (λ f a y k e. absurd (omega (arith, status_of_lem e)), λ f a y e. not_two c.naca e) λ n2.
-    stop (λ b y e. fails_as s c _ false (Highest b) n1) λ n3.
-    stop (λ y e. fails_as s c _ false NoBit n1) λ n4.
+    stop (λ b y e. fails_as s c _ false (Some b) n1) λ n3.
+    stop (λ y e. fails_as s c _ false None n1) λ n4.
     stop (λ y e. absurd (omega (arith, status_of_lem e))) λ n5 e.
     no_end e))
     (λ l e. no_entry e)
@@ -132,10 +133,10 @@ refused_otherwise s c st se =
 
 -- What that means --------------------------------------------------------------------------------------------------------------------------
 
-restate_begins : {a b : Allegiance} {n : ℕ} (ts : List Task) → a ≡ Clear → b ≡ Faulted n → restate a b ts ≡ map blocked_task ts
+restate_begins : {a b : Allegiance} {n : ℕ} (ts : List Task) → a ≡ None → b ≡ Some n → restate a b ts ≡ map blocked_task ts
 restate_begins ts e k = rw (e, k) refl
 
-restate_lasts : {a b : Allegiance} {f n : ℕ} (ts : List Task) → a ≡ Faulted f → b ≡ Faulted n → restate a b ts ≡ ts
+restate_lasts : {a b : Allegiance} {f n : ℕ} (ts : List Task) → a ≡ Some f → b ≡ Some n → restate a b ts ≡ ts
 restate_lasts ts e k = rw (e, k) refl
 
 none_enabled : (ts : List Task) → any enabled_task (map blocked_task ts) ≡ false
@@ -149,15 +150,15 @@ none_enabled (t ∷ ts) = rw (go t.state) (none_enabled ts)
 
 -- RULES 5.17: without an ACA and with NACA 1 an ACA is in effect for the command's nexus, and no task is enabled
 pub refused_begins_aca :
-    (s : State) (c : Entry) (se : Sense) → answer s (Command c) ≡ EndedAtEntry 0x02 se → s.header.aca ≡ Clear → c.naca ≡ true
-    → ((step s (Command c)).header.aca ≡ Faulted c.nexus) × (any enabled_task (step s (Command c)).tasks ≡ false)
+    (s : State) (c : Entry) (se : Sense) → answer s (Command c) ≡ EndedAtEntry 0x02 se → s.header.aca ≡ None → c.naca ≡ true
+    → ((step s (Command c)).header.aca ≡ Some c.nexus) × (any enabled_task (step s (Command c)).tasks ≡ false)
 unfolding step
 refused_begins_aca s c se e a n =
     let f = refused_with_02 s c se e in
     let left = kept (map (fate_at_entry s c) s.tasks) s.tasks in
     (f.aca ∙ begins, ap (any enabled_task) (f.tasks ∙ restate_begins left a begins) ∙ none_enabled left)
   where
-    begins : aca_at_entry s c ≡ Faulted c.nexus
+    begins : aca_at_entry s c ≡ Some c.nexus
     begins = rw (a, n)
 
 -- RULES 5.16 and 5.17: with NACA 0 none begins
@@ -169,12 +170,12 @@ refused_begins_none s c se e n = (refused_with_02 s c se e).aca ∙ rw (n, and_o
 
 -- RULES 5.18: in an ACA those that stay are all but the tasks of the command's nexus, if it was overlapped, each as it was, and the ACA is as it was
 pub record SparesInAca (s : State) (c : Entry) (f : ℕ) : Type 0 where
-  pub aca_stays : (step s (Command c)).header.aca ≡ Faulted f
+  pub aca_stays : (step s (Command c)).header.aca ≡ Some f
   pub tasks_stay :
       (step s (Command c)).tasks ≡ passing (λ (t : Task). not (any (same c.nexus c.tag) s.tasks && of_nexus c.nexus t)) s.tasks
 
 pub refused_in_aca :
-    (s : State) (c : Entry) (se : Sense) (f : ℕ) → answer s (Command c) ≡ EndedAtEntry 0x02 se → s.header.aca ≡ Faulted f → SparesInAca s c f
+    (s : State) (c : Entry) (se : Sense) (f : ℕ) → answer s (Command c) ≡ EndedAtEntry 0x02 se → s.header.aca ≡ Some f → SparesInAca s c f
 unfolding step
 refused_in_aca s c se f e a =
     let k = refused_with_02 s c se e in
@@ -189,7 +190,7 @@ refused_in_aca s c se f e a =
     own : Task → Bool
     own t = any (same c.nexus c.tag) s.tasks && of_nexus c.nexus t
 
-    stays : aca_at_entry s c ≡ Faulted f
+    stays : aca_at_entry s c ≡ Some f
     stays = rw a
 
     alike : (t : Task) → fate_at_entry s c t ≡ end_if (own t) 0xFF
@@ -200,8 +201,8 @@ abbrev pub aborted_status : Bool → Bool → ℕ
 aborted_status own tas = cond (not own && tas) 0x40 0xFF
 
 abbrev right_fate : Bool → Bool → Fate → Bool
-right_fate own tas Stays = true
-right_fate own tas (Ends st) = eqb st (aborted_status own tas)
+right_fate own tas None = true
+right_fate own tas (Some st) = eqb st (aborted_status own tas)
 
 -- a record with another status
 abbrev pub wrong_record : ℕ → Bool → Ended → Bool
@@ -216,14 +217,14 @@ right_records n tas f (t ∷ ts) h = go (f t) (h t) (right_records n tas f ts h)
     go :
         (k : Fate) → right_fate (of_nexus n t) tas k ≡ true → any (wrong_record n tas) (ended_from (map f ts) ts) ≡ false
         → any (wrong_record n tas) (ended_from (k ∷ map f ts) (t ∷ ts)) ≡ false
-    go Stays e rest = rest
-    go (Ends st) e rest = rw e rest
+    go None e rest = rest
+    go (Some st) e rest = rw e rest
 
 right_qerr : (q : Qerr) (p : Policy) (n : ℕ) (t : Task) → right_fate (of_nexus n t) p.tas (fate_by_qerr q p n t) ≡ true
 right_qerr EndNone p n t = refl
 right_qerr EndAll p n t = go (of_nexus n t) p.tas
   where
-    go : (own tas : Bool) → right_fate own tas (Ends (cond (not own && tas) 0x40 0xFF)) ≡ true
+    go : (own tas : Bool) → right_fate own tas (Some (cond (not own && tas) 0x40 0xFF)) ≡ true
     go true tas = refl
     go false true = refl
     go false false = refl
@@ -240,7 +241,7 @@ right_entry s c t =
   where
     go :
         (over own clear : Bool) (k : Fate) → right_fate own s.header.policy.tas k ≡ true
-        → right_fate own s.header.policy.tas (cond (over && own) (Ends 0xFF) (cond clear k Stays)) ≡ true
+        → right_fate own s.header.policy.tas (cond (over && own) (Some 0xFF) (cond clear k None)) ≡ true
     go true true clear k h = refl
     go true false true k h = h
     go true false false k h = refl
@@ -279,8 +280,8 @@ refused_lists_aborted s c st se e =
 ended_name_lem : (n g : ℕ) (fs : List Fate) (ts : List Task) → any (λ (r : Ended). eqb r.nexus n && eqb r.tag g) (ended_from fs ts) ≡ any (same n g) (lost fs ts)
 ended_name_lem n g [] ts = refl
 ended_name_lem n g (f ∷ fs) [] = refl
-ended_name_lem n g (Stays ∷ fs) (t ∷ ts) = ended_name_lem n g fs ts
-ended_name_lem n g (Ends st ∷ fs) (t ∷ ts) = rw (ended_name_lem n g fs ts)
+ended_name_lem n g (None ∷ fs) (t ∷ ts) = ended_name_lem n g fs ts
+ended_name_lem n g (Some st ∷ fs) (t ∷ ts) = rw (ended_name_lem n g fs ts)
 
 pub command_never_listed :
     (s : State) (c : Entry) → any (same c.nexus c.tag) s.tasks ≡ false
@@ -291,13 +292,13 @@ command_never_listed s c e =
     ended_name_lem c.nexus c.tag fs s.tasks ∙ any_lost (same c.nexus c.tag) fs s.tasks e
 
 restate_nil : (a b : Allegiance) → restate a b [] ≡ []
-restate_nil a Clear = refl
-restate_nil Clear (Faulted n) = refl
-restate_nil (Faulted f) (Faulted n) = refl
+restate_nil a None = refl
+restate_nil None (Some n) = refl
+restate_nil (Some f) (Some n) = refl
 
 -- RULES 5.16: under QERR 01b, without an ACA, no task is left
 pub refused_empties :
-    (s : State) (c : Entry) (se : Sense) → answer s (Command c) ≡ EndedAtEntry 0x02 se → s.header.aca ≡ Clear → s.header.policy.qerr ≡ EndAll
+    (s : State) (c : Entry) (se : Sense) → answer s (Command c) ≡ EndedAtEntry 0x02 se → s.header.aca ≡ None → s.header.policy.qerr ≡ EndAll
     → (step s (Command c)).tasks ≡ []
 unfolding step
 refused_empties s c se e a q =
@@ -322,14 +323,14 @@ names_left s c se e own =
 
 -- RULES 4.5 and 5.16: under QERR 11b, without an ACA, all tasks of the command's nexus end, and no other
 pub refused_ends_nexus :
-    (s : State) (c : Entry) (se : Sense) → answer s (Command c) ≡ EndedAtEntry 0x02 se → s.header.aca ≡ Clear → s.header.policy.qerr ≡ EndNexus
+    (s : State) (c : Entry) (se : Sense) → answer s (Command c) ≡ EndedAtEntry 0x02 se → s.header.aca ≡ None → s.header.policy.qerr ≡ EndNexus
     → map task_name (step s (Command c)).tasks ≡ map task_name (passing (λ (t : Task). not (of_nexus c.nexus t)) s.tasks)
 refused_ends_nexus s c se e a q = names_left s c se e (map_alike (fate_at_entry s c) (λ t. end_if (of_nexus c.nexus t) 0xFF) alike s.tasks)
   where
     alike : (t : Task) → fate_at_entry s c t ≡ end_if (of_nexus c.nexus t) 0xFF
     alike t = rw (a, q) (go (any (same c.nexus c.tag) s.tasks) (of_nexus c.nexus t))
       where
-        go : (over own : Bool) → cond (over && own) (Ends 0xFF) (end_if own 0xFF) ≡ end_if own 0xFF
+        go : (over own : Bool) → cond (over && own) (Some 0xFF) (end_if own 0xFF) ≡ end_if own 0xFF
         go true true = refl
         go true false = refl
         go false own = refl

@@ -1,9 +1,9 @@
 -- What each event does to each pending bit of each nexus: the rules agree with specs/Attentions.
+use Rattle.std.specs.Prelude.{Some, None, Option}
 use Prim.Native.Nat.{ℕ, zero, suc, ◌<◌}
 use mathlib.Core.Bool.{Bool, true, false, cond, ◌&&◌, not, and-true as and_on, and-false as and_off, or-false as or_off}
 use mathlib.Core.Path.{◌≡◌, refl, ap, ◌∙◌}
 use mathlib.Core.List.{List, [], ◌∷◌, map}
-use mathlib.Core.Option.{Option, none, some}
 use native.Mathlib.Omega.{arith}
 use lib.Dec.{eqb, ltb}
 use lib.ListN.{length, get_or}
@@ -12,7 +12,7 @@ use borrow.Author.Tests.{not-true, ltb-true, lt-ltb, eqb-true, eqb-false, eq-eqb
 use Rattle.laws.specs.Lists.{any, first}
 use Rattle.laws.proofs.Bools.{and-true, cases, split}
 use Rattle.laws.proofs.Lists.{any_less, first_passes, first_any, first_none}
-use Rattle.rules.specs.Types.{Task, Entry, Finish, CheckCondition, Function, AbortTask, AbortTaskSet, ClearTaskSet, ClearAca, LogicalUnitReset, Unknown, Happening, PowerOn, HardReset, NexusLoss, Event, Command, Completion, Management, Condition, Allegiance, Clear, Faulted, Pending, Bit, ClearedBit, Top, NoBit, Highest, EndedAtEntry, Sense, Sweep, ClearedBy, FailedTask, Done, Ruling, Changes}
+use Rattle.rules.specs.Types.{Task, Entry, Finish, CheckCondition, Function, AbortTask, AbortTaskSet, ClearTaskSet, ClearAca, LogicalUnitReset, Unknown, Happening, PowerOn, HardReset, NexusLoss, Event, Command, Completion, Management, Condition, Allegiance, Pending, Bit, ClearedBit, EndedAtEntry, Sense, Sweep, ClearedBy, FailedTask, Done, Ruling, Changes}
 use Rattle.rules.specs.Tasks.{nexuses, aca_task, of_nexus, same, is_enabled, enabled_task, is_named}
 use Rattle.rules.specs.Bits.{no_pending, top, sense_for, after_power_on, after_hard_reset, after_unit_reset}
 use Rattle.rules.specs.Rulings.{State, is_clear, pending_of, turn, lost, also_by_qerr, fate_of, answer_of, ruled}
@@ -23,7 +23,7 @@ use Rattle.rules.proofs.Distinct.{same_parts}
 use Rattle.rules.proofs.Cases.{stop, check_cases, failing_cases, check2_none, finish_cases}
 use Rattle.rules.proofs.WellKept.{Tested}
 use Rattle.rules.proofs.WellSays.{says_tested}
-use Rattle.rules.proofs.FieldErrors.{top_is, top_first, qerr_all_ends}
+use Rattle.rules.proofs.FieldErrors.{top_first, qerr_all_ends}
 use Rattle.rules.proofs.Telling.{changed, changed_bits, tells, told_bits, cleared_after, untold, by_qerr}
 
 -- By cause ---------------------------------------------------------------------------------------------------------------------------------
@@ -48,44 +48,44 @@ unmoved_due s i r e = record { bits = e; told = λ b u. none_reported u }
 due_as : {s : State} {i : ℕ} {r : Ruling} {a b : Attention} → a ≡ b → Due s i r b → Due s i r a
 due_as e d = rw e d
 
-no_bit : {P : Type 0} {b : Bit} → NoBit ≡ Highest b → P
+no_bit : {P : Type 0} {b : Bit} → None ≡ Some b → P
 no_bit e = absurd (let z : ◌≡◌ {A = ℕ} 0 1 = cc in omega arith)
 
-is_bit_lem : (o : Top) (b : Bit) → tells o ≡ Reports b → o ≡ Highest b
-is_bit_lem NoBit b e = none_reported e
-is_bit_lem (Highest x) b e = let z : x ≡ b = cc in ap (λ y. Highest y) z
+is_bit_lem : (o : Option Bit) (b : Bit) → tells o ≡ Reports b → o ≡ Some b
+is_bit_lem None b e = none_reported e
+is_bit_lem (Some x) b e = let z : x ≡ b = cc in ap (λ y. Some y) z
 
-abbrev is_bit : Top → Bool
-is_bit NoBit = false
-is_bit (Highest b) = true
+abbrev is_bit : Option Bit → Bool
+is_bit None = false
+is_bit (Some b) = true
 
 any_bit : (p : Pending) → any (is_set p) ranks ≡ is_bit (top p)
 any_bit p = rw (top_first p) (go (first (is_set p) ranks) refl)
   where
-    go : (o : Option Bit) → first (is_set p) ranks ≡ o → any (is_set p) ranks ≡ is_bit (top_is o)
-    go none e = first_none (is_set p) ranks e
-    go (some b) e = first_any (is_set p) (is_set p) ranks b e (first_passes (is_set p) ranks b e)
+    go : (o : Option Bit) → first (is_set p) ranks ≡ o → any (is_set p) ranks ≡ is_bit o
+    go None e = first_none (is_set p) ranks e
+    go (Some b) e = first_any (is_set p) (is_set p) ranks b e (first_passes (is_set p) ranks b e)
 
-told_is : (exempt : Bool) (o : Option Bit) → cond (not exempt) (reports_bit o) Unmoved ≡ tells (cond exempt NoBit (top_is o))
+told_is : (exempt : Bool) (o : Option Bit) → cond (not exempt) (reports_bit o) Unmoved ≡ tells (cond exempt None o)
 told_is true o = refl
-told_is false none = refl
-told_is false (some b) = refl
+told_is false None = refl
+told_is false (Some b) = refl
 
-passes : (a : Allegiance) (c : Entry) (aca : Bool) → check2 a c aca ≡ none → passes_aca a c aca ≡ true
-passes Clear c aca e = refl
-passes (Faulted f) c aca e = let k = check2_none f c aca e in rw (k.0, k.1, k.2)
+passes : (a : Allegiance) (c : Entry) (aca : Bool) → check2 a c aca ≡ None → passes_aca a c aca ≡ true
+passes None c aca e = refl
+passes (Some f) c aca e = let k = check2_none f c aca e in rw (k.0, k.1, k.2)
 
 -- A command
 
 module _ (s : State) (i : ℕ) (here : i < length s.pending) where
   -- a CHECK CONDITION at entry: the nexus of the command, another one
-  abbrev failed_to : Entry → Top → Attention
+  abbrev failed_to : Entry → Option Bit → Attention
   failed_to c o =
       cond (eqb i c.nexus) (tells o)
       (cond (is_clear s.header.aca && ends_others s.header.policy.qerr) (cleared_by s c.nexus i) Unmoved)
 
   failed_bits :
-      (c : Entry) (se : Sense) (w : Sweep) (o : Top)
+      (c : Entry) (se : Sense) (w : Sweep) (o : Option Bit)
       → pending_of (ruled s (check_condition s.header c se w o)) i ≡ changed (failed_to c o) (pending_of s i)
   failed_bits c se w o =
       failing_cases (λ d. pending_of (ruled s (Changes (EndedAtEntry 0x02 se) d)) i ≡ changed (failed_to c o) (pending_of s i)) s.header c w o
@@ -95,7 +95,7 @@ module _ (s : State) (i : ℕ) (here : i < length s.pending) where
 module _ (s : State) (c : Entry) where
   -- checks 1 and 2 let the command pass
   past_aca :
-      any (same c.nexus c.tag) s.tasks ≡ false → check2 s.header.aca c (any aca_task s.tasks) ≡ none
+      any (same c.nexus c.tag) s.tasks ≡ false → check2 s.header.aca c (any aca_task s.tasks) ≡ None
       → reported_by s c ≡ tells (bit_to_report c (pending_of s c.nexus))
   past_aca n1 n2 =
       rw (n1, passes s.header.aca c (any aca_task s.tasks) n2, top_first (pending_of s c.nexus))
@@ -104,7 +104,7 @@ module _ (s : State) (c : Entry) where
   pub bit_waits : not c.exempt && any (is_set (pending_of s c.nexus)) ranks ≡ is_bit (bit_to_report c (pending_of s c.nexus))
   bit_waits = go c.exempt
     where
-      go : (x : Bool) → not x && any (is_set (pending_of s c.nexus)) ranks ≡ is_bit (cond x NoBit (top (pending_of s c.nexus)))
+      go : (x : Bool) → not x && any (is_set (pending_of s c.nexus)) ranks ≡ is_bit (cond x None (top (pending_of s c.nexus)))
       go true = refl
       go false = any_bit (pending_of s c.nexus)
 
@@ -121,8 +121,8 @@ module _ (s : State) (c : Entry) where
   module _ (i : ℕ) (low : i < length s.pending) where
     -- the command ends with 02h
     failed_due :
-        (se : Sense) (w : Sweep) (o : Top) → reported_by s c ≡ tells o → fails_at_entry s c ≡ is_clear s.header.aca
-        → ((b : Bit) → o ≡ Highest b → se ≡ sense_for b)
+        (se : Sense) (w : Sweep) (o : Option Bit) → reported_by s c ≡ tells o → fails_at_entry s c ≡ is_clear s.header.aca
+        → ((b : Bit) → o ≡ Some b → se ≡ sense_for b)
         → Due s i (check_condition s.header c se w o) (caused s (Command c) i)
     failed_due se w o r f sensed =
         record {
@@ -145,20 +145,20 @@ module _ (s : State) (c : Entry) where
     command_due =
         check_cases (λ r. Due s i r (caused s (Command c) i)) s.header c (any (same c.nexus c.tag) s.tasks) (any aca_task s.tasks)
         (pending_of s c.nexus)
-        (stop (λ y. failed_due _ _ NoBit (rw y) (rw y (and_on (is_clear s.header.aca))) (λ b e. no_bit e)) λ n1.
+        (stop (λ y. failed_due _ _ None (rw y) (rw y (and_on (is_clear s.header.aca))) (λ b e. no_bit e)) λ n1.
         stop (λ f a e k. still_due _ (rw (n1, a, e, k)) (rw a) refl, λ f a e. still_due _ (rw (n1, a, e)) (rw a) refl) λ n2.
         stop (λ b e.
-        failed_due _ _ (Highest b) (past_aca n1 n2 ∙ ap tells e) (rw (n1, bit_waits, e) (and_on (is_clear s.header.aca)))
+        failed_due _ _ (Some b) (past_aca n1 n2 ∙ ap tells e) (rw (n1, bit_waits, e) (and_on (is_clear s.header.aca)))
         (λ b' e'. let z : b ≡ b' = cc in ap sense_for z)) λ n3.
         let quiet : reported_by s c ≡ Unmoved = past_aca n1 n2 ∙ ap tells n3 in
-        stop (λ e. failed_due _ _ NoBit quiet (rw (n1, bit_waits, n3, e) (and_on (is_clear s.header.aca))) (λ b e'. no_bit e')) λ n4.
+        stop (λ e. failed_due _ _ None quiet (rw (n1, bit_waits, n3, e) (and_on (is_clear s.header.aca))) (λ b e'. no_bit e')) λ n4.
         let lets : fails_at_entry s c ≡ false = rw (n1, bit_waits, n3, n4) (and_off (is_clear s.header.aca)) in
         stop (λ e. still_due _ quiet lets refl) λ n5.
         still_due _ quiet lets refl)
 
 abbrev enabled_of : Option Task → Bool
-enabled_of none = false
-enabled_of (some t) = enabled_task t
+enabled_of None = false
+enabled_of (Some t) = enabled_task t
 
 -- RULES 10.5: an enabled one is the one found
 enabled_found :
@@ -190,12 +190,12 @@ module _ (s : State) (i : ℕ) (w : Tested s) (low : i < nexuses) where
   unfolding manage
   manage_bits n (AbortTask g) = refl
   manage_bits n AbortTaskSet = refl
-  manage_bits n ClearTaskSet = cleared_after s i here n NoBit (ClearedBy n s.header.policy) (λ t. refl) ∙ ap (λ a. changed a (pending_of s i)) (untold s i here n true)
+  manage_bits n ClearTaskSet = cleared_after s i here n None (ClearedBy n s.header.policy) (λ t. refl) ∙ ap (λ a. changed a (pending_of s i)) (untold s i here n true)
   manage_bits n ClearAca = go s.header.aca
     where
       go : (a : Allegiance) → pending_of (ruled s (clearing s.header n a)) i ≡ pending_of s i
-      go Clear = refl
-      go (Faulted f) = cases (λ r. pending_of (ruled s r) i ≡ pending_of s i) (eqb n f) (λ e. refl) (λ e. refl)
+      go None = refl
+      go (Some f) = cases (λ r. pending_of (ruled s r) i ≡ pending_of s i) (eqb n f) (λ e. refl) (λ e. refl)
   manage_bits n LogicalUnitReset = map_at after_unit_reset s.pending i here
   manage_bits n Unknown = refl
 
@@ -222,7 +222,7 @@ module _ (s : State) (i : ℕ) (w : Tested s) (low : i < nexuses) where
           → pending_of (ruled s (Changes Done (finish s.header CheckCondition t named))) i
           ≡ changed (cond (ends_others s.header.policy.qerr) (cleared_by s t.nexus i) Unmoved) (pending_of s i)
       failed t =
-          by_qerr s i here t.nexus NoBit (FailedTask t.nexus t.tag s.header.policy) s.header.policy.qerr
+          by_qerr s i here t.nexus None (FailedTask t.nexus t.tag s.header.policy) s.header.policy.qerr
           (λ q u. qerr_all_ends t.nexus t.tag s.header.policy u q)
           ∙ ap (λ a. changed a (pending_of s i)) (untold s i here t.nexus (ends_others s.header.policy.qerr))
 
@@ -230,8 +230,8 @@ module _ (s : State) (i : ℕ) (w : Tested s) (low : i < nexuses) where
           (o : Option Task) → first (same n g) s.tasks ≡ o
           → pending_of (ruled s (complete s.header o f named)) i
           ≡ changed (cond (enabled_of o && eqb (status_of f) 0x02 && ends_others s.header.policy.qerr) (cleared_by s n i) Unmoved) (pending_of s i)
-      go none e = refl
-      go (some t) e =
+      go None e = refl
+      go (Some t) e =
           split (is_enabled t.state)
           (λ k.
           rw k

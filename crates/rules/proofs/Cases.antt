@@ -1,14 +1,14 @@
 -- What the ruling on an event can come to, as laws for whoever argues by cases.
+use Rattle.std.specs.Prelude.{Some, None, Option}
 use Prim.Native.Nat.{ℕ, ◌<◌, ◌≤◌}
 use mathlib.Core.Bool.{Bool, true, false, cond, ◌&&◌, not}
 use mathlib.Core.Path.{◌≡◌, refl, ap, sym}
 use mathlib.Core.List.{List, [], ◌∷◌}
-use mathlib.Core.Option.{Option, none, some}
 use lib.Dec.{eqb, ltb, leb}
 use borrow.Author.Tests.{ltb-true, lt-ltb, le-ltb, not-true, not-false}
 use Rattle.laws.specs.Lists.{any, first}
 use Rattle.laws.proofs.Bools.{and-true, cases, none_some, some_is}
-use Rattle.rules.specs.Types.{Task, Entry, Finish, Good, CheckCondition, Busy, ReservationConflict, Function, Happening, Event, Command, Completion, Management, Condition, Allegiance, Clear, Faulted, Header, Pending, Bit, Top, NoBit, Highest, Sweep, Nobody, NexusTasks, NoTask, Change, Sense, Done, NexusAboveSeven, NoSuchTask, NotEnabled, Ruling, Keeps, Changes}
+use Rattle.rules.specs.Types.{Task, Entry, Finish, Good, CheckCondition, Busy, ReservationConflict, Function, Happening, Event, Command, Completion, Management, Condition, Allegiance, Header, Pending, Bit, Sweep, Nobody, NexusTasks, Change, Sense, Done, NexusAboveSeven, NoSuchTask, NotEnabled, Ruling, Keeps, Changes}
 use Rattle.values.specs.Headers.{with_aca, run_after}
 use Rattle.rules.specs.Tasks.{places, nexuses, is_enabled, aca_task, same, is_named}
 use Rattle.rules.specs.Bits.{sense_for}
@@ -30,54 +30,54 @@ passes (stop a b) = b
 -- what is to be shown so that P holds of what a list of checks comes to, with r where all of them let pass
 abbrev pub Ruled : (Ruling → Type 0) → List (Option Ruling) → Ruling → Type 0
 Ruled P [] r = P r
-Ruled P (o ∷ cs) r = Check ((q : Ruling) → o ≡ some q → P q) (o ≡ none → Ruled P cs r)
+Ruled P (o ∷ cs) r = Check ((q : Ruling) → o ≡ Some q → P q) (o ≡ None → Ruled P cs r)
 
 -- the one law of every list of checks, however long
 pub first_ruled : (P : Ruling → Type 0) (cs : List (Option Ruling)) (r : Ruling) → Ruled P cs r → P (first_that_rules cs r)
 first_ruled P [] r k = k
-first_ruled P (none ∷ cs) r k = first_ruled P cs r (passes k refl)
-first_ruled P (some q ∷ cs) r k = stops k q refl
+first_ruled P (None ∷ cs) r k = first_ruled P cs r (passes k refl)
+first_ruled P (Some q ∷ cs) r k = stops k q refl
 
-only_some : (P : Ruling → Type 0) (b : Bool) (r q : Ruling) → (b ≡ true → P r) → only_if b r ≡ some q → P q
+only_some : (P : Ruling → Type 0) (b : Bool) (r q : Ruling) → (b ≡ true → P r) → only_if b r ≡ Some q → P q
 only_some P true r q p e = some_is P r q e (p refl)
 only_some P false r q p e = none_some q e
 
-only_none : (b : Bool) (r : Ruling) → only_if b r ≡ none → b ≡ false
+only_none : (b : Bool) (r : Ruling) → only_if b r ≡ None → b ≡ false
 only_none true r e = none_some r (sym e)
 only_none false r e = refl
 
 -- what is to be shown of check 2, in an ACA of nexus f
 abbrev pub AcaStops : (Ruling → Type 0) → Allegiance → Entry → Bool → Type 0
 AcaStops P a c aca =
-    ((f : ℕ) → a ≡ Faulted f → eqb c.nexus f ≡ true → asks_aca c.asked && not aca ≡ false → P (Keeps (ended_with 0x30)))
-    × ((f : ℕ) → a ≡ Faulted f → eqb c.nexus f ≡ false → P (Keeps (ended_with (cond c.naca 0x30 0x08))))
+    ((f : ℕ) → a ≡ Some f → eqb c.nexus f ≡ true → asks_aca c.asked && not aca ≡ false → P (Keeps (ended_with 0x30)))
+    × ((f : ℕ) → a ≡ Some f → eqb c.nexus f ≡ false → P (Keeps (ended_with (cond c.naca 0x30 0x08))))
 
 check2_some :
-    (P : Ruling → Type 0) (a : Allegiance) (c : Entry) (aca : Bool) (q : Ruling) → AcaStops P a c aca → check2 a c aca ≡ some q → P q
-check2_some P Clear c aca q k e = none_some q e
-check2_some P (Faulted f) c aca q k e =
-    cases (λ o. o ≡ some q → P q) (eqb c.nexus f)
+    (P : Ruling → Type 0) (a : Allegiance) (c : Entry) (aca : Bool) (q : Ruling) → AcaStops P a c aca → check2 a c aca ≡ Some q → P q
+check2_some P None c aca q k e = none_some q e
+check2_some P (Some f) c aca q k e =
+    cases (λ o. o ≡ Some q → P q) (eqb c.nexus f)
     (λ h. only_some P (not (asks_aca c.asked && not aca)) _ q (λ n. k.0 f refl h (not-true _ n)))
     (λ h e'. some_is P _ q e' (k.1 f refl h))
     e
 
 check3_some :
-    (P : Ruling → Type 0) (h : Header) (c : Entry) (o : Top) (q : Ruling)
-    → ((b : Bit) → o ≡ Highest b → P (check_condition h c (sense_for b) Nobody (Highest b))) → check3 h c o ≡ some q → P q
-check3_some P h c NoBit q tells e = none_some q e
-check3_some P h c (Highest b) q tells e = some_is P _ q e (tells b refl)
+    (P : Ruling → Type 0) (h : Header) (c : Entry) (o : Option Bit) (q : Ruling)
+    → ((b : Bit) → o ≡ Some b → P (check_condition h c (sense_for b) Nobody (Some b))) → check3 h c o ≡ Some q → P q
+check3_some P h c None q tells e = none_some q e
+check3_some P h c (Some b) q tells e = some_is P _ q e (tells b refl)
 
-check3_none : (h : Header) (c : Entry) (o : Top) → check3 h c o ≡ none → o ≡ NoBit
-check3_none h c NoBit e = refl
-check3_none h c (Highest b) e = none_some _ (sym e)
+check3_none : (h : Header) (c : Entry) (o : Option Bit) → check3 h c o ≡ None → o ≡ None
+check3_none h c None e = refl
+check3_none h c (Some b) e = none_some _ (sym e)
 
 -- a command, check by check, each with what those before it said
 pub check_cases :
     (P : Ruling → Type 0) (h : Header) (c : Entry) (here aca : Bool) (p : Pending)
-    → Check (here ≡ true → P (check_condition h c (sense 0xB 0x4E 0x00) (NexusTasks c.nexus) NoBit)) (here ≡ false
-    → Check (AcaStops P h.aca c aca) (check2 h.aca c aca ≡ none
-    → Check ((b : Bit) → bit_to_report c p ≡ Highest b → P (check_condition h c (sense_for b) Nobody (Highest b))) (bit_to_report c p ≡ NoBit
-    → Check (bad_attribute h.aca c.asked ≡ true → P (check_condition h c (sense 0x5 0x49 0x00) Nobody NoBit)) (
+    → Check (here ≡ true → P (check_condition h c (sense 0xB 0x4E 0x00) (NexusTasks c.nexus) None)) (here ≡ false
+    → Check (AcaStops P h.aca c aca) (check2 h.aca c aca ≡ None
+    → Check ((b : Bit) → bit_to_report c p ≡ Some b → P (check_condition h c (sense_for b) Nobody (Some b))) (bit_to_report c p ≡ None
+    → Check (bad_attribute h.aca c.asked ≡ true → P (check_condition h c (sense 0x5 0x49 0x00) Nobody None)) (
     bad_attribute h.aca c.asked ≡ false
     → Check (leb places h.count ≡ true → P (Keeps (ended_with 0x28))) (leb places h.count ≡ false
     → P (Changes Done (accepting h c)))))))
@@ -99,42 +99,42 @@ check_cases P h c here aca p k =
 -- what the checks have said of a command that all of them let pass
 pub record Passed (h : Header) (c : Entry) (here aca : Bool) (p : Pending) : Type 0 where
   pub not_overlapped : here ≡ false
-  pub aca_lets_it : check2 h.aca c aca ≡ none
-  pub no_attention : bit_to_report c p ≡ NoBit
+  pub aca_lets_it : check2 h.aca c aca ≡ None
+  pub no_attention : bit_to_report c p ≡ None
   pub attribute_good : bad_attribute h.aca c.asked ≡ false
   pub room : leb places h.count ≡ false
 
 -- a command: ended with CHECK CONDITION, kept out with another status, or accepted
 pub enter_cases :
     (P : Ruling → Type 0) (h : Header) (c : Entry) (here aca : Bool) (p : Pending)
-    → ((se : Sense) (w : Sweep) (o : Top) → P (check_condition h c se w o)) → ((st : ℕ) → P (Keeps (ended_with st)))
+    → ((se : Sense) (w : Sweep) (o : Option Bit) → P (check_condition h c se w o)) → ((st : ℕ) → P (Keeps (ended_with st)))
     → (Passed h c here aca p → P (Changes Done (accepting h c))) → P (enter h c here aca p)
 enter_cases P h c here aca p fails keeps accepts =
     check_cases P h c here aca p
-    (stop (λ e. fails _ _ NoBit) λ n1.
+    (stop (λ e. fails _ _ None) λ n1.
     stop (λ f a e k. keeps _, λ f a e. keeps _) λ n2.
-    stop (λ b e. fails _ _ (Highest b)) λ n3.
-    stop (λ e. fails _ _ NoBit) λ n4.
+    stop (λ b e. fails _ _ (Some b)) λ n3.
+    stop (λ e. fails _ _ None) λ n4.
     stop (λ e. keeps _) λ n5.
     accepts (record { not_overlapped = n1; aca_lets_it = n2; no_attention = n3; attribute_good = n4; room = n5 }))
 
 -- what a CHECK CONDITION at entry does, without an ACA and in one
 pub failing_cases :
-    (P : Change → Type 0) (h : Header) (c : Entry) (w : Sweep) (o : Top) → (h.aca ≡ Clear → P (failing Clear h c w o))
-    → ((f : ℕ) → h.aca ≡ Faulted f → P (failing (Faulted f) h c w o)) → P (failing h.aca h c w o)
+    (P : Change → Type 0) (h : Header) (c : Entry) (w : Sweep) (o : Option Bit) → (h.aca ≡ None → P (failing None h c w o))
+    → ((f : ℕ) → h.aca ≡ Some f → P (failing (Some f) h c w o)) → P (failing h.aca h c w o)
 failing_cases P h c w o free held = go h.aca refl
   where
     go : (a : Allegiance) → h.aca ≡ a → P (failing a h c w o)
-    go Clear e = free e
-    go (Faulted f) e = held f e
+    go None e = free e
+    go (Some f) e = held f e
 
 -- the same without cases, by whether QERR and NACA apply
 pub failing_is :
-    (h : Header) (c : Entry) (w : Sweep) (o : Top)
+    (h : Header) (c : Entry) (w : Sweep) (o : Option Bit)
     → failing h.aca h c w o
     ≡ record {
       sweep = cond (is_clear h.aca) (also_by_qerr h.policy.qerr h.policy c.nexus w) w;
-      joins = NoTask;
+      joins = None;
       header = with_aca h (aca_by_naca (is_clear h.aca && c.naca) c.nexus h.aca);
       notice = telling c.nexus o (is_clear h.aca && tells_others h.policy.qerr h.policy.tas);
     }
@@ -145,25 +145,25 @@ failing_is h c w o = go h.aca refl
         → failing a h c w o
         ≡ record {
           sweep = cond (is_clear a) (also_by_qerr h.policy.qerr h.policy c.nexus w) w;
-          joins = NoTask;
+          joins = None;
           header = with_aca h (aca_by_naca (is_clear a && c.naca) c.nexus a);
           notice = telling c.nexus o (is_clear a && tells_others h.policy.qerr h.policy.tas);
         }
-    go Clear e = refl
-    go (Faulted f) e = rw (← e) refl
+    go None e = refl
+    go (Some f) e = rw (← e) refl
 
-pub failing_joins : (h : Header) (c : Entry) (w : Sweep) (o : Top) → (failing h.aca h c w o).joins ≡ NoTask
-failing_joins h c w o = failing_cases (λ d. d.joins ≡ NoTask) h c w o (λ e. refl) (λ f e. refl)
+pub failing_joins : (h : Header) (c : Entry) (w : Sweep) (o : Option Bit) → (failing h.aca h c w o).joins ≡ None
+failing_joins h c w o = failing_cases (λ d. d.joins ≡ None) h c w o (λ e. refl) (λ f e. refl)
 
-pub failing_run : (h : Header) (c : Entry) (w : Sweep) (o : Top) → (failing h.aca h c w o).header.run ≡ h.run
+pub failing_run : (h : Header) (c : Entry) (w : Sweep) (o : Option Bit) → (failing h.aca h c w o).header.run ≡ h.run
 failing_run h c w o = failing_cases (λ d. d.header.run ≡ h.run) h c w o (λ e. refl) (λ f e. refl)
 
 -- a command that passes check 2 in an ACA is of the faulted nexus and asks for attribute ACA, and there is no ACA task
 pub check2_none :
-    (f : ℕ) (c : Entry) (aca : Bool) → check2 (Faulted f) c aca ≡ none
+    (f : ℕ) (c : Entry) (aca : Bool) → check2 (Some f) c aca ≡ None
     → (eqb c.nexus f ≡ true) × (asks_aca c.asked ≡ true) × (aca ≡ false)
 check2_none f c aca =
-    cases (λ o. o ≡ none → (eqb c.nexus f ≡ true) × (asks_aca c.asked ≡ true) × (aca ≡ false)) (eqb c.nexus f)
+    cases (λ o. o ≡ None → (eqb c.nexus f ≡ true) × (asks_aca c.asked ≡ true) × (aca ≡ false)) (eqb c.nexus f)
     (λ h e.
     let o =
     and-true (asks_aca c.asked) (not aca)
@@ -192,7 +192,7 @@ finish_run h f t b =
 -- a completion: refused by 4, 5 or 6, or the enabled task of that nexus and tag ends
 pub completion_cases :
     (P : Ruling → Type 0) (s : State) (n g : ℕ) (f : Finish) → P (Keeps NexusAboveSeven) → P (Keeps NoSuchTask) → P (Keeps NotEnabled)
-    → ((t : Task) → n < nexuses → first (same n g) s.tasks ≡ some t → is_enabled t.state ≡ true
+    → ((t : Task) → n < nexuses → first (same n g) s.tasks ≡ Some t → is_enabled t.state ≡ true
     → P (Changes Done (finish s.header f t (is_named n g (turn s)))))
     → P (ruling s (Completion n g f))
 unfolding ruling rule_for complete
@@ -200,8 +200,8 @@ completion_cases P s n g f high absent waits ends =
     cases P (ltb n nexuses) (λ l. go (first (same n g) s.tasks) refl (ltb-true n nexuses l)) (λ l. high)
   where
     go : (o : Option Task) → first (same n g) s.tasks ≡ o → n < nexuses → P (complete s.header o f (is_named n g (turn s)))
-    go none e l = absent
-    go (some t) e l = cases P (is_enabled t.state) (λ k. ends t l e k) (λ k. waits)
+    go None e l = absent
+    go (Some t) e l = cases P (is_enabled t.state) (λ k. ends t l e k) (λ k. waits)
 
 -- any event but a completion, by its own rule
 pub other_cases :

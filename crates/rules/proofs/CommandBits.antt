@@ -1,8 +1,8 @@
 -- Which pending bits a command changes: the one that it is told of, and bit 4 of others that lose tasks to it (RULES 5.8, 5.9 and 11.3).
+use Rattle.std.specs.Prelude.{Some, None, Option}
 use Prim.Native.Nat.{ℕ, ◌<◌}
 use mathlib.Core.Bool.{Bool, true, false, cond, ◌&&◌, not}
 use mathlib.Core.Path.{◌≡◌, refl, ap, sym, ◌∙◌}
-use mathlib.Core.Option.{Option, none, some}
 use mathlib.Core.Logic.{◌⊎◌, inl, inr}
 use native.Mathlib.Omega.{arith}
 use lib.Dec.{eqb, ltb}
@@ -10,7 +10,7 @@ use lib.ListN.{get_or}
 use borrow.Author.Tests.{not-true, ltb-true, lt-ltb, eqb-true, eqb-false, eq-eqb}
 use Rattle.laws.specs.Lists.{any}
 use Rattle.laws.proofs.Bools.{and-true, not_both, cases, split}
-use Rattle.rules.specs.Types.{Entry, Command, Clear, Bit, PowerBit, ClearedBit, Answer, Done, BadTable, BadReport, BadEvent, NexusAboveSeven, NoSuchTask, NotEnabled, EndedAtEntry, Rejected, BadPolicy}
+use Rattle.rules.specs.Types.{Entry, Command, Bit, PowerBit, ClearedBit, Answer, Done, BadTable, BadReport, BadEvent, NexusAboveSeven, NoSuchTask, NotEnabled, EndedAtEntry, Rejected, BadPolicy}
 use Rattle.rules.specs.Tasks.{nexuses, aca_task, of_nexus, same}
 use Rattle.rules.specs.Bits.{sense_for}
 use Rattle.rules.specs.Rulings.{State, pending_of, answer_of}
@@ -50,8 +50,8 @@ command_tells_others_alone s c b w l e =
 
     sets_none : (tells : Bool) (o : Option Bit) (old : Bool) → bit_after (cond tells (reports_bit o) Unmoved) b old ≡ true → old ≡ true
     sets_none false o old e = e
-    sets_none true none old e = e
-    sets_none true (some a) old e = goes (eqb (rank b) (rank a)) old e
+    sets_none true None old e = e
+    sets_none true (Some a) old e = goes (eqb (rank b) (rank a)) old e
 
 -- answer 7 with 02h
 abbrev pub ends_with02 : Answer → Bool
@@ -67,7 +67,7 @@ ends_with02 Rejected = false
 ends_with02 BadPolicy = false
 
 -- RULES 11.3: without an ACA a command is answered 02h exactly if it fails at entry
-pub fails_as_answered : (s : State) (c : Entry) → c.nexus < nexuses → s.header.aca ≡ Clear → ends_with02 (answer s (Command c)) ≡ fails_at_entry s c
+pub fails_as_answered : (s : State) (c : Entry) → c.nexus < nexuses → s.header.aca ≡ None → ends_with02 (answer s (Command c)) ≡ fails_at_entry s c
 unfolding answer ruling rule_for
 fails_as_answered s c l a =
     rw (lt-ltb c.nexus nexuses l)
@@ -92,14 +92,14 @@ pub record ToldOfLoss (s : State) (c : Entry) (i : ℕ) (b : Bit) : Type 0 where
 -- RULES 5.8 and 5.9: the highest bit of the command's own nexus, which the answer tells
 pub record ToldAtEntry (s : State) (c : Entry) (i : ℕ) (b : Bit) : Type 0 where
   pub own : i ≡ c.nexus
-  pub first_in_rank : highest (pending_of s i) ≡ some b
+  pub first_in_rank : highest (pending_of s i) ≡ Some b
   pub answered : answer s (Command c) ≡ EndedAtEntry 0x02 (sense_for b)
 
 -- what a command can bring
 abbrev Brought : State → Entry → ℕ → Attention → Type 0
 Brought s c i Unmoved = Unit {0}
 Brought s c i (Gets b) = ToldOfLoss s c i b
-Brought s c i (Reports b) = (i ≡ c.nexus) × (highest (pending_of s i) ≡ some b)
+Brought s c i (Reports b) = (i ≡ c.nexus) × (highest (pending_of s i) ≡ Some b)
 
 brought : (s : State) (c : Entry) (i : ℕ) → Brought s c i (attention s (Command c) i)
 unfolding attention
@@ -132,8 +132,8 @@ brought s c i =
     (λ k. tt)
   where
     go : (o : Option Bit) → i ≡ c.nexus → highest (pending_of s i) ≡ o → Brought s c i (reports_bit o)
-    go none q e = tt
-    go (some b) q e = (q, e)
+    go None q e = tt
+    go (Some b) q e = (q, e)
 
 -- bit 4 has the lowest rank: who gets it keeps the others
 only_four : (b : Bit) (old : Bool) → (bit_after (Gets ClearedBit) b old ≡ old → ⊥) → b ≡ ClearedBit
@@ -161,5 +161,5 @@ only_one_reported s c i b w l moved = go (attention s (Command c) i) refl (broug
         split (eqb (rank b) (rank x))
         (λ k.
         let z : x ≡ b = sym (rank_place x) ∙ ap (λ n. get_or ranks n PowerBit) (sym (eqb-true (rank b) (rank x) k)) ∙ rank_place b in
-        inl (record { own = t.0; first_in_rank = t.1 ∙ ap (λ y. some y) z; answered = rw z at (reported_is_answered s c i x w e) }))
+        inl (record { own = t.0; first_in_rank = t.1 ∙ ap (λ y. Some y) z; answered = rw z at (reported_is_answered s c i x w e) }))
         (λ k. absurd (moved (rw (e, k) at (bits_after s (Command c) i b w l))))

@@ -1,9 +1,9 @@
 -- Laws of a command's entry, for every state: the overlapped command (check 1), the bad attribute (check 4) and the full task set (check 5).
+use Rattle.std.specs.Prelude.{Some, None}
 use Prim.Native.Nat.{ℕ, ◌<◌}
 use mathlib.Core.Bool.{Bool, true, false, cond, ◌&&◌, not}
 use mathlib.Core.Path.{◌≡◌, refl, ap, ◌∙◌}
 use mathlib.Core.List.{List, [], ◌∷◌, map, append-nil}
-use mathlib.Core.Option.{none}
 use mathlib.Core.Logic.{◌⊎◌, inl, inr}
 use native.Mathlib.Omega.{arith}
 use lib.Dec.{eqb, ltb}
@@ -12,7 +12,7 @@ use borrow.Author.Tests.{lt-ltb, le-leb, lt-leb}
 use Rattle.laws.specs.Lists.{any, passing}
 use Rattle.laws.proofs.Bools.{not_both, cases}
 use Rattle.laws.proofs.Lists.{any_never, map_alike}
-use Rattle.rules.specs.Types.{Task, Entry, Command, Qerr, EndNone, EndAll, EndNexus, Policy, Allegiance, Clear, Faulted, Bit, NoBit, Fate, Stays, Ends, Sense, Ended, Nobody, EndedAtEntry, Done, Ruling, Changes}
+use Rattle.rules.specs.Types.{Task, Entry, Command, Qerr, EndNone, EndAll, EndNexus, Policy, Allegiance, Bit, Fate, Sense, Ended, Nobody, EndedAtEntry, Done, Ruling, Changes}
 use Rattle.rules.specs.Tasks.{places, nexuses, aca_task, of_nexus, same, restate}
 use Rattle.rules.specs.Bits.{top, sense_for}
 use Rattle.rules.specs.Rulings.{State, is_clear, pending_of, end_if, kept, fate_by_qerr, answer_of, ruled, ended_from, report_of, task_name}
@@ -47,7 +47,7 @@ overlapped_leaves_none s c o =
     ∙ any_restate (of_nexus c.nexus) (λ t st. refl) s.header.aca (aca_at_entry s c) (kept (map (fate_at_entry s c) s.tasks) s.tasks)
     ∙ gone (of_nexus c.nexus) (fate_at_entry s c) s.tasks (any_never _ s.tasks (λ t. rw o.here (ends (of_nexus c.nexus t) _)))
   where
-    ends : (b : Bool) (f : Fate) → b && not (is_ends (cond b (Ends 0xFF) f)) ≡ false
+    ends : (b : Bool) (f : Fate) → b && not (is_ends (cond b (Some 0xFF) f)) ≡ false
     ends true f = refl
     ends false f = refl
 
@@ -70,16 +70,16 @@ own_reported n (t ∷ ts) = go (of_nexus n t) refl (own_reported n ts)
 
 -- where QERR ends no task of another nexus: in an ACA, where it is not applied, or if it is not 01b
 spared : (a : Allegiance) (q : Qerr) (p : Policy) (n : ℕ) (t : Task) → is_clear a && ends_others q ≡ false
-    → cond (of_nexus n t) (Ends 0xFF) (cond (is_clear a) (fate_by_qerr q p n t) Stays) ≡ end_if (of_nexus n t) 0xFF
+    → cond (of_nexus n t) (Some 0xFF) (cond (is_clear a) (fate_by_qerr q p n t) None) ≡ end_if (of_nexus n t) 0xFF
 spared a q p n t e = go a q (of_nexus n t) refl e
   where
     go : (a : Allegiance) (q : Qerr) (b : Bool) → of_nexus n t ≡ b → is_clear a && ends_others q ≡ false
-        → cond b (Ends 0xFF) (cond (is_clear a) (fate_by_qerr q p n t) Stays) ≡ end_if b 0xFF
+        → cond b (Some 0xFF) (cond (is_clear a) (fate_by_qerr q p n t) None) ≡ end_if b 0xFF
     go a q true k e = refl
-    go (Faulted f) q false k e = refl
-    go Clear EndNone false k e = refl
-    go Clear EndAll false k e = not_both refl e
-    go Clear EndNexus false k e = rw k
+    go (Some f) q false k e = refl
+    go None EndNone false k e = refl
+    go None EndAll false k e = not_both refl e
+    go None EndNexus false k e = rw k
 
 -- RULES 5.2 and 5.18
 pub overlapped_ends_no_other :
@@ -101,15 +101,15 @@ overlapped_ends_no_other s c o e =
 -- Attribute --------------------------------------------------------------------------------------------------------------------------------
 
 restate_same : (a : Allegiance) (ts : List Task) → states_fit a ts ≡ true → restate a a ts ≡ ts
-restate_same Clear ts e = settle_settled [] ts e
-restate_same (Faulted f) ts e = refl
+restate_same None ts e = settle_settled [] ts e
+restate_same (Some f) ts e = refl
 
 -- a check with no sweep and no bit of its own leaves a well-formed state as it was under QERR 00b and with NACA 0, and nobody is reported
 nothing_changes :
     (s : State) (c : Entry) (se : Sense) → WellFormed s → s.header.policy.qerr ≡ EndNone → c.naca ≡ false
-    → (ruled s (check_condition s.header c se Nobody NoBit) ≡ s) × (report_of s (check_condition s.header c se Nobody NoBit) ≡ [])
+    → (ruled s (check_condition s.header c se Nobody None) ≡ s) × (report_of s (check_condition s.header c se Nobody None) ≡ [])
 nothing_changes s c se w q n =
-    failing_cases (λ d. (ruled s (Changes (EndedAtEntry 0x02 se) d) ≡ s) × (report_of s (Changes (EndedAtEntry 0x02 se) d) ≡ [])) s.header c Nobody NoBit
+    failing_cases (λ d. (ruled s (Changes (EndedAtEntry 0x02 se) d) ≡ s) × (report_of s (Changes (EndedAtEntry 0x02 se) d) ≡ [])) s.header c Nobody None
     (λ a. (
       rw (q, n, all_stay s.tasks, append-nil s.tasks, settle_settled [] s.tasks (rw a at (says_tested s w).states), ← w.counted, a),
       rw q (none_ends s.tasks),
@@ -153,8 +153,8 @@ bad_attribute_changes_nothing s c w q n =
 pub record Passes (s : State) (c : Entry) : Type 0 where
   pub low : c.nexus < nexuses
   pub not_overlapped : any (same c.nexus c.tag) s.tasks ≡ false
-  pub aca_lets_it : check2 s.header.aca c (any aca_task s.tasks) ≡ none
-  pub no_attention : (c.exempt ≡ true) ⊎ (top (pending_of s c.nexus) ≡ NoBit)
+  pub aca_lets_it : check2 s.header.aca c (any aca_task s.tasks) ≡ None
+  pub no_attention : (c.exempt ≡ true) ⊎ (top (pending_of s c.nexus) ≡ None)
   pub attribute_good : bad_attribute s.header.aca c.asked ≡ false
 
 passed_ruling :
@@ -164,9 +164,9 @@ unfolding ruling rule_for enter
 passed_ruling s c p =
     rw (lt-ltb c.nexus nexuses p.low, p.not_overlapped, p.aca_lets_it, quiet p.no_attention, p.attribute_good)
   where
-    quiet : (c.exempt ≡ true) ⊎ (top (pending_of s c.nexus) ≡ NoBit) → bit_to_report c (pending_of s c.nexus) ≡ NoBit
+    quiet : (c.exempt ≡ true) ⊎ (top (pending_of s c.nexus) ≡ None) → bit_to_report c (pending_of s c.nexus) ≡ None
     quiet (inl e) = rw e
-    quiet (inr e) = cases (λ o. o ≡ NoBit) c.exempt (λ h. refl) (λ h. e)
+    quiet (inr e) = cases (λ o. o ≡ None) c.exempt (λ h. refl) (λ h. e)
 
 -- RULES 5.12 and 5.14, checks 5 and 6: full at 64 and at no fewer
 pub full_at_64_only :

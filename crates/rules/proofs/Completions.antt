@@ -1,11 +1,11 @@
 -- Laws of completions: every status gets the same answer and counts alike for run (RULES 6.7); one other than 02h does what GOOD does, and no more (RULES 6.9).
 --
 --   with_status st x := the ended record x with the status st
+use Rattle.std.specs.Prelude.{Some, None, Option}
 use Prim.Native.Nat.{ℕ}
 use mathlib.Core.Bool.{Bool, true, false, cond, not}
 use mathlib.Core.Path.{◌≡◌, refl, ap, sym, ◌∙◌}
 use mathlib.Core.List.{List, [], ◌∷◌, ◌++◌, map, append-nil}
-use mathlib.Core.Option.{Option, none, some}
 use native.Mathlib.Omega.{arith}
 use lib.Dec.{ltb}
 use lib.ListN.{length}
@@ -49,7 +49,7 @@ none_ended q st [] e = refl
 none_ended q st (t ∷ ts) e = let o = or-false (q t) (any q ts) e in rw o.0 (none_ended q st ts o.1)
 
 one_ended :
-    (n g st : ℕ) (ts : List Task) (t : Task) → distinct ts ≡ true → first (same n g) ts ≡ some t
+    (n g st : ℕ) (ts : List Task) (t : Task) → distinct ts ≡ true → first (same n g) ts ≡ Some t
     → ended_from (map (λ u. end_if (same n g u) st) ts) ts ≡ record { nexus = n; status = st; tag = g } ∷ []
 one_ended n g st [] t d e = none_some t e
 one_ended n g st (u ∷ us) t d e =
@@ -57,8 +57,8 @@ one_ended n g st (u ∷ us) t d e =
     first_cases (same n g) u us t e
     (λ y z.
     let p = same_parts n g u y in
-    let none = not-true (any (same u.nexus u.tag) us) o.0 in
-    rw (y, none_ended (same n g) st us (rw (p.0, p.1) at none), p.0, p.1))
+    let None = not-true (any (same u.nexus u.tag) us) o.0 in
+    rw (y, none_ended (same n g) st us (rw (p.0, p.1) at None), p.0, p.1))
     (λ y z. rw y (one_ended n g st us t o.1 z))
 
 -- Two completions of one task --------------------------------------------------------------------------------------------------------------
@@ -66,7 +66,7 @@ one_ended n g st (u ∷ us) t d e =
 -- they are refused alike, or the same enabled task ends by the one or the other
 pub both_completions :
     (P : Ruling → Ruling → Type 0) (s : State) (n g : ℕ) (f k : Finish) → ((a : Answer) → P (Keeps a) (Keeps a))
-    → ((t : Task) → first (same n g) s.tasks ≡ some t
+    → ((t : Task) → first (same n g) s.tasks ≡ Some t
     → P (Changes Done (finish s.header f t (is_named n g (turn s)))) (Changes Done (finish s.header k t (is_named n g (turn s)))))
     → P (ruling s (Completion n g f)) (ruling s (Completion n g k))
 unfolding ruling rule_for complete
@@ -76,13 +76,13 @@ both_completions P s n g f k keeps ends =
     go :
         (o : Option Task) → first (same n g) s.tasks ≡ o
         → P (complete s.header o f (is_named n g (turn s))) (complete s.header o k (is_named n g (turn s)))
-    go none h = keeps NoSuchTask
-    go (some t) h = split (is_enabled t.state) (λ e. rw e (ends t h)) (λ e. rw e (keeps NotEnabled))
+    go None h = keeps NoSuchTask
+    go (Some t) h = split (is_enabled t.state) (λ e. rw e (ends t h)) (λ e. rw e (keeps NotEnabled))
 
 -- one that is answered 0: the task of that nexus and tag ends
 accepted :
     (P : Ruling → Type 0) (s : State) (n g : ℕ) (f : Finish) → answer_of (ruling s (Completion n g f)) ≡ Done
-    → ((t : Task) → first (same n g) s.tasks ≡ some t → P (Changes Done (finish s.header f t (is_named n g (turn s)))))
+    → ((t : Task) → first (same n g) s.tasks ≡ Some t → P (Changes Done (finish s.header f t (is_named n g (turn s)))))
     → P (ruling s (Completion n g f))
 accepted P s n g f e ends =
     completion_cases (λ r. answer_of r ≡ Done → P r) s n g f
@@ -128,7 +128,7 @@ module _ (s : State) (n g : ℕ) where
 
   -- RULES 1.15, 1.16 and 6.7: every status counts alike for run, and only where the task was the named one on the table before
   pub completion_run :
-      (f : Finish) (t : Task) → first (same n g) s.tasks ≡ some t → answer s (Completion n g f) ≡ Done
+      (f : Finish) (t : Task) → first (same n g) s.tasks ≡ Some t → answer s (Completion n g f) ≡ Done
       → (step s (Completion n g f)).header.run ≡ cond (is_named n g (turn s)) (run_after t.attribute s.header.run) s.header.run
   unfolding answer step
   completion_run f t h e =
@@ -149,14 +149,14 @@ module _ (s : State) (n g : ℕ) where
 
   -- who ends, by the task found
   fates_are :
-      (f : Finish) (t : Task) → first (same n g) s.tasks ≡ some t
+      (f : Finish) (t : Task) → first (same n g) s.tasks ≡ Some t
       → fates_of s (Changes Done (ending s.header f t (is_named n g (turn s)))) ≡ map (λ u. end_if (same n g u) (status_of f)) s.tasks
   fates_are f t h =
       let p = same_parts n g t (first_passes (same n g) s.tasks t h) in
       λ i. map (λ u. end_if (same (p.0 i) (p.1 i) u) (status_of f)) s.tasks
 
   pub ends_one :
-      (f : Finish) → (status_of f ≡ 0x02 → ⊥) → WellFormed s → (t : Task) → first (same n g) s.tasks ≡ some t
+      (f : Finish) → (status_of f ≡ 0x02 → ⊥) → WellFormed s → (t : Task) → first (same n g) s.tasks ≡ Some t
       → report_of s (Changes Done (finish s.header f t (is_named n g (turn s)))) ≡ record { nexus = n; status = status_of f; tag = g } ∷ []
   ends_one f other w t h =
       rw (finish_ending s.header f t (is_named n g (turn s)) other)
@@ -177,7 +177,7 @@ module _ (s : State) (n g : ℕ) where
       s n g f e (λ t h. (ends_one f other w t h, stay t h))
     where
       stay :
-          (t : Task) → first (same n g) s.tasks ≡ some t
+          (t : Task) → first (same n g) s.tasks ≡ Some t
           → map task_name (ruled s (Changes Done (finish s.header f t (is_named n g (turn s))))).tasks
           ≡ passing (λ (x : Named). not (same_name x (record { nexus = n; tag = g }))) (map task_name s.tasks)
       stay t h =

@@ -1,16 +1,16 @@
 -- Laws of what looks at no state: restating the tasks leaves it as it was. No two tasks share nexus and tag, and it stays so.
+use Rattle.std.specs.Prelude.{Some, None}
 use Prim.Native.Nat.{ℕ, suc}
 use mathlib.Core.Bool.{Bool, true, false, not}
 use mathlib.Core.Path.{◌≡◌, refl, ap, sym, subst, ◌∙◌}
 use mathlib.Core.List.{List, [], ◌∷◌, ◌++◌, map}
-use mathlib.Core.Option.{some}
 use lib.Dec.{eqb}
 use lib.ListN.{length, length-map}
 use borrow.Author.Tests.{not-true, eqb-true}
 use Rattle.laws.specs.Lists.{any, first}
 use Rattle.laws.proofs.Bools.{and-true, or-false, not_both, split, eqb_sym}
 use Rattle.laws.proofs.Lists.{any_append, first_any, first_stands}
-use Rattle.rules.specs.Types.{Attribute, TaskState, Task, Fate, Stays, Ends, Allegiance, Clear, Faulted}
+use Rattle.rules.specs.Types.{Attribute, TaskState, Task, Fate, Allegiance}
 use Rattle.rules.specs.Tasks.{same, with_state, eligible, enabled_if, blocked_if_enabled, settle_from, restate}
 use Rattle.rules.specs.Rulings.{kept}
 use Rattle.rules.specs.Well.{distinct}
@@ -23,9 +23,9 @@ blocked_task t = with_state t (blocked_if_enabled t.state)
 pub by_restate :
     (P : List Task → List Task → Type 0) → ((ts : List Task) → P (settle_from [] ts) ts) → ((ts : List Task) → P (map blocked_task ts) ts)
     → ((ts : List Task) → P ts ts) → (a b : Allegiance) (ts : List Task) → P (restate a b ts) ts
-by_restate P f g h a Clear ts = f ts
-by_restate P f g h Clear (Faulted n) ts = g ts
-by_restate P f g h (Faulted m) (Faulted n) ts = h ts
+by_restate P f g h a None ts = f ts
+by_restate P f g h None (Some n) ts = g ts
+by_restate P f g h (Some m) (Some n) ts = h ts
 
 length_settle : (older : List Attribute) (ts : List Task) → length (settle_from older ts) ≡ length ts
 length_settle older [] = refl
@@ -70,7 +70,7 @@ distinct_settle older (t ∷ ts) =
 distinct_blocked : (ts : List Task) → distinct (map blocked_task ts) ≡ distinct ts
 distinct_blocked [] = refl
 distinct_blocked (t ∷ ts) =
-    rw (any_restate (same t.nexus t.tag) (λ u st. refl) Clear (Faulted 0) ts, distinct_blocked ts)
+    rw (any_restate (same t.nexus t.tag) (λ u st. refl) None (Some 0) ts, distinct_blocked ts)
 
 pub distinct_restate : (a b : Allegiance) (ts : List Task) → distinct (restate a b ts) ≡ distinct ts
 distinct_restate = by_restate (λ us ts. distinct us ≡ distinct ts) (distinct_settle []) distinct_blocked (λ ts. refl)
@@ -78,10 +78,10 @@ distinct_restate = by_restate (λ us ts. distinct us ≡ distinct ts) (distinct_
 pub distinct_kept : (fs : List Fate) (ts : List Task) → distinct ts ≡ true → distinct (kept fs ts) ≡ true
 distinct_kept [] ts e = e
 distinct_kept (f ∷ fs) [] e = refl
-distinct_kept (Stays ∷ fs) (t ∷ ts) e =
+distinct_kept (None ∷ fs) (t ∷ ts) e =
     let o : (not (any (same t.nexus t.tag) ts) ≡ true) × (distinct ts ≡ true) = and-true _ _ e in
     rw (any_kept (same t.nexus t.tag) fs ts (not-true _ o.0)) (distinct_kept fs ts o.1)
-distinct_kept (Ends st ∷ fs) (t ∷ ts) e = distinct_kept fs ts (and-true (not (any (same t.nexus t.tag) ts)) _ e).1
+distinct_kept (Some st ∷ fs) (t ∷ ts) e = distinct_kept fs ts (and-true (not (any (same t.nexus t.tag) ts)) _ e).1
 
 pub distinct_join :
     (ts : List Task) (u : Task) → distinct ts ≡ true → any (same u.nexus u.tag) ts ≡ false
@@ -105,7 +105,7 @@ same_parts n g t e =
 
 distinct_stands :
     (n g : ℕ) (older : List Task) (x : Task) (younger : List Task) → distinct (older ++ (x ∷ younger)) ≡ true → same n g x ≡ true
-    → first (same n g) (older ++ (x ∷ younger)) ≡ some x
+    → first (same n g) (older ++ (x ∷ younger)) ≡ Some x
 distinct_stands n g [] x younger d h = rw h
 distinct_stands n g (u ∷ us) x younger d h =
     let ts = us ++ (x ∷ younger) in
@@ -120,12 +120,12 @@ distinct_stands n g (u ∷ us) x younger d h =
 -- a task of the table, wherever it stands, is the one that its nexus and tag find
 pub distinct_found :
     (n g : ℕ) (ts older : List Task) (x : Task) (younger : List Task) → ts ≡ older ++ (x ∷ younger) → distinct ts ≡ true → same n g x ≡ true
-    → first (same n g) ts ≡ some x
+    → first (same n g) ts ≡ Some x
 distinct_found n g ts older x younger stands d h =
-    subst (λ l. first (same n g) l ≡ some x) (sym stands) (distinct_stands n g older x younger (subst (λ l. distinct l ≡ true) stands d) h)
+    subst (λ l. first (same n g) l ≡ Some x) (sym stands) (distinct_stands n g older x younger (subst (λ l. distinct l ≡ true) stands d) h)
 
 -- and so is one that another search finds
 pub distinct_first :
-    (n g : ℕ) (p : Task → Bool) (ts : List Task) (x : Task) → distinct ts ≡ true → first p ts ≡ some x → same n g x ≡ true
-    → first (same n g) ts ≡ some x
+    (n g : ℕ) (p : Task → Bool) (ts : List Task) (x : Task) → distinct ts ≡ true → first p ts ≡ Some x → same n g x ≡ true
+    → first (same n g) ts ≡ Some x
 distinct_first n g p ts x d e h = let s = first_stands p ts x e in distinct_found n g ts s.0 x s.1 s.2 d h

@@ -1,4 +1,5 @@
 -- The status that a task ends with is a byte.
+use Rattle.std.specs.Prelude.{Option, Some, None}
 use Prim.Native.Nat.{ℕ}
 use mathlib.Core.Bool.{Bool, true, false, ◌&&◌, not}
 use mathlib.Core.Path.{◌≡◌, refl, ap}
@@ -8,7 +9,7 @@ use lib.Dec.{eqb, ltb}
 use lib.ListN.{length}
 use Rattle.laws.specs.Lists.{one_if, count}
 use Rattle.laws.proofs.Bools.{cases}
-use Rattle.rules.specs.Types.{Task, Entry, Top, NoBit, Highest, Policy, Qerr, EndNone, EndAll, EndNexus, Finish, Good, CheckCondition, Busy, ReservationConflict, Function, AbortTask, AbortTaskSet, ClearTaskSet, ClearAca, LogicalUnitReset, Unknown, Happening, PowerOn, HardReset, NexusLoss, Event, Allegiance, Clear, Faulted, Done, Fate, Stays, Ends, Ended, Sweep, Nobody, OneTask, NexusTasks, AcaTask, AllTasks, ClearedBy, FailedTask, Ruling, Keeps, Changes}
+use Rattle.rules.specs.Types.{Task, Entry, Policy, Qerr, EndNone, EndAll, EndNexus, Finish, Good, CheckCondition, Busy, ReservationConflict, Function, AbortTask, AbortTaskSet, ClearTaskSet, ClearAca, LogicalUnitReset, Unknown, Happening, PowerOn, HardReset, NexusLoss, Event, Allegiance, Done, Fate, Ended, Sweep, Nobody, OneTask, NexusTasks, AcaTask, AllTasks, ClearedBy, FailedTask, Ruling, Keeps, Changes, Bit}
 use Rattle.rules.specs.Tasks.{aca_task, of_nexus, same}
 use Rattle.rules.specs.Rulings.{State, end_if, aborted_by, also_by_qerr, fate_by_qerr, or_else, fate_of, ended_from, report_of}
 use Rattle.rules.specs.Rules.{failing, status_of, finish, clearing, manage, happen, ruling, report}
@@ -19,8 +20,8 @@ abbrev pub is_byte : ℕ → Bool
 is_byte n = ltb n 256
 
 abbrev byte_fate : Fate → Bool
-byte_fate Stays = true
-byte_fate (Ends st) = is_byte st
+byte_fate None = true
+byte_fate (Some st) = is_byte st
 
 -- of the sweeps one carries a status
 abbrev byte_sweep : Sweep → Bool
@@ -78,16 +79,16 @@ byte_ruling_lem s =
     other_cases (λ e r. byte_ruling r ≡ true) s (λ e. refl)
     (λ n g f. completion_cases (λ r. byte_ruling r ≡ true) s n g f refl refl refl (λ t l h k. finishes f t _))
     (λ c l. check_cases (λ r. byte_ruling r ≡ true) s.header c _ _ _
-    (stop (λ e. fails c _ NoBit refl) λ n1.
+    (stop (λ e. fails c _ None refl) λ n1.
     stop (λ f a e k. refl, λ f a e. refl) λ n2.
-    stop (λ b e. fails c _ (Highest b) refl) λ n3.
-    stop (λ e. fails c _ NoBit refl) λ n4.
+    stop (λ b e. fails c _ (Some b) refl) λ n3.
+    stop (λ e. fails c _ None refl) λ n4.
     stop (λ e. refl) λ n5.
     refl))
     manages
     happens
   where
-    fails : (c : Entry) (w : Sweep) (o : Top) → byte_sweep w ≡ true → byte_sweep (failing s.header.aca s.header c w o).sweep ≡ true
+    fails : (c : Entry) (w : Sweep) (o : Option Bit) → byte_sweep w ≡ true → byte_sweep (failing s.header.aca s.header c w o).sweep ≡ true
     fails c w o e =
         failing_cases (λ d. byte_sweep d.sweep ≡ true) s.header c w o
         (λ a. byte_sweep_lem s.header.policy.qerr s.header.policy c.nexus w e)
@@ -97,8 +98,8 @@ byte_ruling_lem s =
     finishes f t b = finish_cases (λ c. byte_ruling (Changes Done c) ≡ true) s.header f t b (λ q. byte_status f) (λ q. refl)
 
     clears : (n : ℕ) (a : Allegiance) → byte_ruling (clearing s.header n a) ≡ true
-    clears n Clear = refl
-    clears n (Faulted f) = cases (λ r. byte_ruling r ≡ true) (eqb n f) (λ e. refl) (λ e. refl)
+    clears n None = refl
+    clears n (Some f) = cases (λ r. byte_ruling r ≡ true) (eqb n f) (λ e. refl) (λ e. refl)
 
     manages : (n : ℕ) (f : Function) → byte_ruling (manage s.header n f) ≡ true
     manages n (AbortTask g) = refl
@@ -118,8 +119,8 @@ byte_end d = is_byte d.status
 
 one_more : (f : Fate) (fs : List Fate) (t : Task) (ts : List Task) → byte_fate f ≡ true → count byte_end (ended_from fs ts) ≡ length (ended_from fs ts)
     → count byte_end (ended_from (f ∷ fs) (t ∷ ts)) ≡ length (ended_from (f ∷ fs) (t ∷ ts))
-one_more Stays fs t ts b e = e
-one_more (Ends st) fs t ts b e = omega (arith, ap one_if b, e)
+one_more None fs t ts b e = e
+one_more (Some st) fs t ts b e = omega (arith, ap one_if b, e)
 
 ended_bytes_lem : (w : Sweep) (ts : List Task) → byte_sweep w ≡ true
     → count byte_end (ended_from (map (fate_of w) ts) ts) ≡ length (ended_from (map (fate_of w) ts) ts)

@@ -1,4 +1,5 @@
 -- Who ends by an event, and what becomes of those that stay as an ACA begins: for every state and every event.
+use Rattle.std.specs.Prelude.{Some, None}
 use Prim.Native.Nat.{ℕ}
 use mathlib.Core.Bool.{Bool, true, false}
 use mathlib.Core.Path.{◌≡◌, refl, ap, sym, ◌∙◌}
@@ -9,7 +10,7 @@ use native.Mathlib.Omega.{arith}
 use lib.Dec.{eqb}
 use lib.ListN.{length, length-append}
 use Rattle.laws.proofs.Bools.{not_both, cases}
-use Rattle.rules.specs.Types.{Dormant, Enabled, Blocked, Task, Finish, Function, AbortTask, AbortTaskSet, ClearTaskSet, ClearAca, LogicalUnitReset, Unknown, Happening, PowerOn, HardReset, NexusLoss, Event, Command, Completion, Management, Condition, Allegiance, Clear, Faulted, Header, Fate, Stays, Ends, Ruling, Keeps, Changes}
+use Rattle.rules.specs.Types.{Dormant, Enabled, Blocked, Task, Finish, Function, AbortTask, AbortTaskSet, ClearTaskSet, ClearAca, LogicalUnitReset, Unknown, Happening, PowerOn, HardReset, NexusLoss, Event, Command, Completion, Management, Condition, Allegiance, Header, Fate, Ruling, Keeps, Changes}
 use Rattle.rules.specs.Rulings.{State, is_clear, kept, lost, fate_of, fates_of, newcomers, joins_of, ruled, task_name, ended_name}
 use Rattle.rules.specs.Rules.{finish, clearing, manage, happen, ruling, step, report}
 use Rattle.rules.specs.Well.{Stands}
@@ -22,8 +23,8 @@ use Rattle.rules.proofs.Cases.{enter_cases, failing_joins, finish_cases, complet
 lost_within : {A : Type 0} (fs : List Fate) (xs : List A) → Sublist (lost fs xs) xs
 lost_within [] xs = nil-sublist xs
 lost_within (f ∷ fs) [] = nil-sublist []
-lost_within (Stays ∷ fs) (x ∷ xs) = Sublist.cons x (lost_within fs xs)
-lost_within (Ends st ∷ fs) (x ∷ xs) = Sublist.cons-cons x (lost_within fs xs)
+lost_within (None ∷ fs) (x ∷ xs) = Sublist.cons x (lost_within fs xs)
+lost_within (Some st ∷ fs) (x ∷ xs) = Sublist.cons-cons x (lost_within fs xs)
 
 -- RULES 4.9: the names in the report are those in the table, in its order, some left out
 pub report_within : (s : State) (e : Event) → Sublist (map ended_name (report s e)) (map task_name s.tasks)
@@ -84,11 +85,11 @@ blocked_were [] (u ∷ us) (o ∷ os) t younger e =
     let z : map blocked_task us ≡ os ++ (t ∷ younger) = cc in
     was_further u us t (blocked_were [] us os t younger z)
 blocked_were (f ∷ fs) [] older t younger e = not_nil older t younger e
-blocked_were (Stays ∷ fs) (u ∷ us) [] t younger e = was_first u us t (cc)
-blocked_were (Stays ∷ fs) (u ∷ us) (o ∷ os) t younger e =
+blocked_were (None ∷ fs) (u ∷ us) [] t younger e = was_first u us t (cc)
+blocked_were (None ∷ fs) (u ∷ us) (o ∷ os) t younger e =
     let z : map blocked_task (kept fs us) ≡ os ++ (t ∷ younger) = cc in
     was_further u us t (blocked_were fs us os t younger z)
-blocked_were (Ends st ∷ fs) (u ∷ us) older t younger e = was_further u us t (blocked_were fs us older t younger e)
+blocked_were (Some st ∷ fs) (u ∷ us) older t younger e = was_further u us t (blocked_were fs us older t younger e)
 
 -- Who joins --------------------------------------------------------------------------------------------------------------------------------
 
@@ -109,8 +110,8 @@ manage_joins h n ClearTaskSet = refl
 manage_joins h n ClearAca = go h.aca
   where
     go : (a : Allegiance) → joins_of (clearing h n a) ≡ []
-    go Clear = refl
-    go (Faulted f) = cases (λ r. joins_of r ≡ []) (eqb n f) (λ e. refl) (λ e. refl)
+    go None = refl
+    go (Some f) = cases (λ r. joins_of r ≡ []) (eqb n f) (λ e. refl) (λ e. refl)
 manage_joins h n LogicalUnitReset = refl
 manage_joins h n Unknown = refl
 
@@ -146,13 +147,13 @@ joins_in_peace s e =
 
 -- RULES 2.8, and nobody joins
 pub aca_begins_lem :
-    (s : State) (e : Event) (f : ℕ) → s.header.aca ≡ Clear → (step s e).header.aca ≡ Faulted f
+    (s : State) (e : Event) (f : ℕ) → s.header.aca ≡ None → (step s e).header.aca ≡ Some f
     → (older : List Task) (t : Task) (younger : List Task) → Stands (step s e).tasks older t younger → WasThere s.tasks t
 unfolding step
 aca_begins_lem s e f before begun older t younger stands = go (ruling s e) (joins_in_peace s e) begun stands
   where
     go :
-        (r : Ruling) → JoinsInPeace s r → (ruled s r).header.aca ≡ Faulted f → Stands (ruled s r).tasks older t younger
+        (r : Ruling) → JoinsInPeace s r → (ruled s r).header.aca ≡ Some f → Stands (ruled s r).tasks older t younger
         → WasThere s.tasks t
     go r (inr same) h k = not_both (ap is_clear before) (ap is_clear (sym same ∙ h))
     go (Keeps a) (inl nobody) h k = not_both (ap is_clear before) (ap is_clear h)

@@ -1,16 +1,16 @@
 -- Each event keeps a state well formed: the ruling on it is fair. Said of the test; WellSays carries it to the statement (RULES 10).
+use Rattle.std.specs.Prelude.{Option, Some, None}
 use Prim.Native.Nat.{ℕ, ◌≤◌, ◌<◌}
 use mathlib.Core.Bool.{Bool, true, false, cond, ◌&&◌, not, and-false as and_off}
 use mathlib.Core.Path.{◌≡◌, refl, ap}
 use mathlib.Core.List.{List, [], ◌∷◌, map, append-nil}
-use mathlib.Core.Option.{none, some}
 use native.Mathlib.Omega.{arith}
 use lib.Dec.{eqb}
 use borrow.Author.Tests.{lt-ltb, eqb-true, leb-false, lt-leb}
 use Rattle.laws.specs.Lists.{any, first}
 use Rattle.laws.proofs.Bools.{not_both, cases}
 use Rattle.laws.proofs.Lists.{any_append, any_less, any_never, first_passes}
-use Rattle.rules.specs.Types.{Attribute, Simple, HeadOfQueue, Ordered, Aca, Task, Asked, Known, NoneOfFour, Entry, Finish, CheckCondition, Function, AbortTask, AbortTaskSet, ClearTaskSet, ClearAca, LogicalUnitReset, Unknown, Happening, PowerOn, HardReset, NexusLoss, Event, Policy, Allegiance, Clear, Faulted, Pending, Top, Fate, Sweep, AcaTask, AllTasks, FailedTask, NexusTasks, Notice, Quiet, UnitWasReset, HardWasReset, PowerCameOn, NoTask, Ruling, Keeps, Changes}
+use Rattle.rules.specs.Types.{Attribute, Simple, HeadOfQueue, Ordered, Aca, Task, Entry, Finish, CheckCondition, Function, AbortTask, AbortTaskSet, ClearTaskSet, ClearAca, LogicalUnitReset, Unknown, Happening, PowerOn, HardReset, NexusLoss, Event, Policy, Allegiance, Pending, Fate, Sweep, AcaTask, AllTasks, FailedTask, NexusTasks, Notice, Quiet, UnitWasReset, HardWasReset, PowerCameOn, Ruling, Keeps, Changes, Bit}
 use Rattle.values.specs.Headers.{run_after, with_aca, with_run}
 use Rattle.rules.specs.Tasks.{places, nexuses, is_aca, is_enabled, aca_task, of_nexus, same}
 use Rattle.rules.specs.Rulings.{State, is_clear, end_if, kept, also_by_qerr, fate_by_qerr, or_else, fate_of, ruled}
@@ -28,13 +28,13 @@ FairR s (Keeps a) = Unit {0}
 FairR s (Changes a c) = Fair s c
 
 allowed_same : (a : Allegiance) (ts : List Task) (fs : List Fate) → states_fit a ts ≡ true → Allowed a a ts fs []
-allowed_same Clear ts fs e = rw append-nil (any_kept aca_task fs ts (settled_ordinary [] ts e))
-allowed_same (Faulted f) ts fs e = (refl, tt)
+allowed_same None ts fs e = rw append-nil (any_kept aca_task fs ts (settled_ordinary [] ts e))
+allowed_same (Some f) ts fs e = (refl, tt)
 
 -- nobody joins, the allegiance stays, and run is good
 fair_same :
     (s : State) (w : Sweep) (run : ℕ) (k : Notice) → Tested s → run ≤ 4
-    → Fair s (record { sweep = w; joins = NoTask; header = with_run s.header run; notice = k })
+    → Fair s (record { sweep = w; joins = None; header = with_run s.header run; notice = k })
 fair_same s w run k t r =
     record {
       run = r;
@@ -46,7 +46,7 @@ fair_same s w run k t r =
 -- nobody joins, and no ACA is left
 fair_clear :
     (s : State) (w : Sweep) (run : ℕ) (k : Notice) → run ≤ 4 → any aca_task (kept (map (fate_of w) s.tasks) s.tasks) ≡ false
-    → Fair s (record { sweep = w; joins = NoTask; header = with_aca (with_run s.header run) Clear; notice = k })
+    → Fair s (record { sweep = w; joins = None; header = with_aca (with_run s.header run) None; notice = k })
 fair_clear s w run k r g = record { run = r; fault = refl; joining = tt; allowed = rw append-nil g }
 
 fair_sweeping : (s : State) (w : Sweep) → Tested s → Fair s (sweeping s.header w)
@@ -54,39 +54,39 @@ fair_sweeping s w t = fair_same s w s.header.run Quiet t t.run
 
 -- Entry
 
-aca_asked : (a : Asked) → asks_aca a ≡ true → attribute_of a ≡ Aca
-aca_asked NoneOfFour e = not_both e refl
-aca_asked (Known Simple) e = not_both e refl
-aca_asked (Known HeadOfQueue) e = not_both e refl
-aca_asked (Known Ordered) e = not_both e refl
-aca_asked (Known Aca) e = refl
+aca_asked : (a : Option Attribute) → asks_aca a ≡ true → attribute_of a ≡ Aca
+aca_asked None e = not_both e refl
+aca_asked (Some Simple) e = not_both e refl
+aca_asked (Some HeadOfQueue) e = not_both e refl
+aca_asked (Some Ordered) e = not_both e refl
+aca_asked (Some Aca) e = refl
 
-good_asked : (a : Asked) → bad_attribute Clear a ≡ false → is_aca (attribute_of a) ≡ false
-good_asked NoneOfFour e = not_both refl e
-good_asked (Known Simple) e = refl
-good_asked (Known HeadOfQueue) e = refl
-good_asked (Known Ordered) e = refl
-good_asked (Known Aca) e = not_both refl e
+good_asked : (a : Option Attribute) → bad_attribute None a ≡ false → is_aca (attribute_of a) ≡ false
+good_asked None e = not_both refl e
+good_asked (Some Simple) e = refl
+good_asked (Some HeadOfQueue) e = refl
+good_asked (Some Ordered) e = refl
+good_asked (Some Aca) e = not_both refl e
 
 allowed_accept :
-    (a : Allegiance) (ts : List Task) (fs : List Fate) (c : Entry) → states_fit a ts ≡ true → check2 a c (any aca_task ts) ≡ none
+    (a : Allegiance) (ts : List Task) (fs : List Fate) (c : Entry) → states_fit a ts ≡ true → check2 a c (any aca_task ts) ≡ None
     → bad_attribute a c.asked ≡ false → Allowed a a ts fs (new_task c ∷ [])
 unfolding new_task
-allowed_accept Clear ts fs c e o b =
+allowed_accept None ts fs c e o b =
     rw (any_append aca_task (kept fs ts) (new_task c ∷ []) (any_kept aca_task fs ts (settled_ordinary [] ts e)), good_asked c.asked b)
-allowed_accept (Faulted f) ts fs c e o b =
+allowed_accept (Some f) ts fs c e o b =
     let k = check2_none f c (any aca_task ts) o in
     (refl, (k.2, aca_asked c.asked k.1, refl, k.0))
 
 allowed_failing :
-    (a : Allegiance) (naca : Bool) (n : ℕ) (ts : List Task) (fs : List Fate) → a ≡ Clear → states_fit a ts ≡ true
-    → Allowed a (aca_by_naca naca n Clear) ts fs []
-allowed_failing (Faulted f) naca n ts fs e w = not_both (ap is_clear e) refl
-allowed_failing Clear true n ts fs e w = refl
-allowed_failing Clear false n ts fs e w = allowed_same Clear ts fs w
+    (a : Allegiance) (naca : Bool) (n : ℕ) (ts : List Task) (fs : List Fate) → a ≡ None → states_fit a ts ≡ true
+    → Allowed a (aca_by_naca naca n None) ts fs []
+allowed_failing (Some f) naca n ts fs e w = not_both (ap is_clear e) refl
+allowed_failing None true n ts fs e w = refl
+allowed_failing None false n ts fs e w = allowed_same None ts fs w
 
 -- an ACA begins, or none does; the one that stands stays
-fair_failing : (s : State) (c : Entry) (w : Sweep) (o : Top) → Tested s → c.nexus < nexuses → Fair s (failing s.header.aca s.header c w o)
+fair_failing : (s : State) (c : Entry) (w : Sweep) (o : Option Bit) → Tested s → c.nexus < nexuses → Fair s (failing s.header.aca s.header c w o)
 fair_failing s c w o t l =
     failing_cases (Fair s) s.header c w o
     (λ e.
@@ -127,10 +127,10 @@ run_after_lem Aca run h = h
 
 -- the completed task is the ACA task: no other is left
 none_left :
-    (a : Allegiance) (n g : ℕ) (p : Policy) (ts : List Task) (t : Task) → states_fit a ts ≡ true → first (same n g) ts ≡ some t
+    (a : Allegiance) (n g : ℕ) (p : Policy) (ts : List Task) (t : Task) → states_fit a ts ≡ true → first (same n g) ts ≡ Some t
     → is_aca t.attribute ≡ true → any aca_task (kept (map (fate_of (FailedTask n g p)) ts) ts) ≡ false
-none_left Clear n g p ts t e h k = any_kept aca_task (map (fate_of (FailedTask n g p)) ts) ts (settled_ordinary [] ts e)
-none_left (Faulted f) n g p ts t e h k =
+none_left None n g p ts t e h k = any_kept aca_task (map (fate_of (FailedTask n g p)) ts) ts (settled_ordinary [] ts e)
+none_left (Some f) n g p ts t e h k =
     gone aca_task (fate_of (FailedTask n g p)) ts
     (any_less (λ u. aca_task u && not (same n g u)) (λ u. aca_task u && not (is_ends (fate_of (FailedTask n g p) u))) ts
     (λ u. hit (aca_task u) (same n g u) (fate_by_qerr p.qerr p n u))
@@ -143,13 +143,13 @@ none_left (Faulted f) n g p ts t e h k =
 
 -- an ACA begins, or goes on for its nexus
 allowed_fault :
-    (a : Allegiance) (n g : ℕ) (ts : List Task) (fs : List Fate) (t : Task) → states_fit a ts ≡ true → first (same n g) ts ≡ some t
-    → is_enabled t.state ≡ true → Allowed a (Faulted t.nexus) ts fs []
-allowed_fault Clear n g ts fs t e h k = refl
-allowed_fault (Faulted f) n g ts fs t e h k = (eqb-true t.nexus f (held_found f [] (same n g) ts t e h k).1, tt)
+    (a : Allegiance) (n g : ℕ) (ts : List Task) (fs : List Fate) (t : Task) → states_fit a ts ≡ true → first (same n g) ts ≡ Some t
+    → is_enabled t.state ≡ true → Allowed a (Some t.nexus) ts fs []
+allowed_fault None n g ts fs t e h k = refl
+allowed_fault (Some f) n g ts fs t e h k = (eqb-true t.nexus f (held_found f [] (same n g) ts t e h k).1, tt)
 
 fair_finish :
-    (s : State) (n g : ℕ) (f : Finish) (t : Task) (named : Bool) → Tested s → n < nexuses → first (same n g) s.tasks ≡ some t
+    (s : State) (n g : ℕ) (f : Finish) (t : Task) (named : Bool) → Tested s → n < nexuses → first (same n g) s.tasks ≡ Some t
     → is_enabled t.state ≡ true → Fair s (finish s.header f t named)
 fair_finish s n g f t named w l h k =
     finish_cases (Fair s) s.header f t named (λ q. fair_same s _ _ Quiet w runs) (λ q. failed)
@@ -190,8 +190,8 @@ fair_reset s k =
     (gone aca_task (fate_of AllTasks) s.tasks (any_never _ s.tasks (λ u. and_off (aca_task u))))
 
 fair_clearing : (s : State) (n : ℕ) (a : Allegiance) → Tested s → FairR s (clearing s.header n a)
-fair_clearing s n Clear w = tt
-fair_clearing s n (Faulted f) w =
+fair_clearing s n None w = tt
+fair_clearing s n (Some f) w =
     cases (FairR s) (eqb n f)
     (λ e.
     fair_clear s AcaTask s.header.run Quiet w.run
@@ -214,9 +214,9 @@ fair_manage s n Unknown w = tt
 allowed_loss :
     (a : Allegiance) (n : ℕ) (ts : List Task) → states_fit a ts ≡ true
     → Allowed a (aca_without n a) ts (map (fate_of (NexusTasks n)) ts) []
-allowed_loss Clear n ts e = allowed_same Clear ts (map (fate_of (NexusTasks n)) ts) e
-allowed_loss (Faulted f) n ts e =
-    cases (λ b. Allowed (Faulted f) b ts (map (fate_of (NexusTasks n)) ts) []) (eqb n f)
+allowed_loss None n ts e = allowed_same None ts (map (fate_of (NexusTasks n)) ts) e
+allowed_loss (Some f) n ts e =
+    cases (λ b. Allowed (Some f) b ts (map (fate_of (NexusTasks n)) ts) []) (eqb n f)
     (λ h.
     rw append-nil
     (gone aca_task (fate_of (NexusTasks n)) ts
@@ -230,8 +230,8 @@ allowed_loss (Faulted f) n ts e =
     hit a false e = e
 
 fault_loss : (n : ℕ) (a : Allegiance) → fault_fits a ≡ true → fault_fits (aca_without n a) ≡ true
-fault_loss n Clear e = refl
-fault_loss n (Faulted f) e = cases (λ b. fault_fits b ≡ true) (eqb n f) (λ h. refl) (λ h. e)
+fault_loss n None e = refl
+fault_loss n (Some f) e = cases (λ b. fault_fits b ≡ true) (eqb n f) (λ h. refl) (λ h. e)
 
 fair_happen : (s : State) (c : Happening) → Tested s → FairR s (happen s.header c)
 unfolding happen

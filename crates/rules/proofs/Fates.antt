@@ -1,37 +1,37 @@
 -- Laws of those that stay and those that end.
+use Rattle.std.specs.Prelude.{Some, None}
 use Prim.Native.Nat.{ℕ, suc, ◌+◌, ◌≤◌, ◌<◌}
 use mathlib.Core.Bool.{Bool, true, false, cond, ◌&&◌, not}
 use mathlib.Core.Path.{◌≡◌, refl, ap}
 use mathlib.Core.List.{List, [], ◌∷◌, map}
-use mathlib.Core.Option.{some}
 use native.Mathlib.Omega.{arith}
 use lib.ListN.{length}
 use Rattle.laws.specs.Lists.{one_if, any, count, first, passing}
 use Rattle.laws.proofs.Bools.{not_both, or-false, none_some}
 use Rattle.laws.proofs.Lists.{first_cases, any_others}
-use Rattle.rules.specs.Types.{Task, Fate, Stays, Ends, Nobody}
+use Rattle.rules.specs.Types.{Task, Fate, Nobody}
 use Rattle.rules.specs.Rulings.{end_if, kept, lost, fate_of, ended_from, task_name, ended_name}
 
 abbrev pub is_ends : Fate → Bool
-is_ends Stays = false
-is_ends (Ends st) = true
+is_ends None = false
+is_ends (Some st) = true
 
-pub stays_is : (f : Fate) → is_ends f ≡ false → f ≡ Stays
-stays_is Stays e = refl
-stays_is (Ends st) e = not_both refl e
+pub stays_is : (f : Fate) → is_ends f ≡ false → f ≡ None
+stays_is None e = refl
+stays_is (Some st) e = not_both refl e
 
 module _ {A : Type 0} where
   pub count_split : (p : A → Bool) (fs : List Fate) (xs : List A) → count p (kept fs xs) + count p (lost fs xs) ≡ count p xs
   count_split p [] xs = omega arith
   count_split p (f ∷ fs) [] = refl
-  count_split p (Stays ∷ fs) (x ∷ xs) = omega (arith, count_split p fs xs)
-  count_split p (Ends st ∷ fs) (x ∷ xs) = omega (arith, count_split p fs xs)
+  count_split p (None ∷ fs) (x ∷ xs) = omega (arith, count_split p fs xs)
+  count_split p (Some st ∷ fs) (x ∷ xs) = omega (arith, count_split p fs xs)
 
   pub length_split : (fs : List Fate) (xs : List A) → length (kept fs xs) + length (lost fs xs) ≡ length xs
   length_split [] xs = omega arith
   length_split (f ∷ fs) [] = refl
-  length_split (Stays ∷ fs) (x ∷ xs) = omega (arith, length_split fs xs)
-  length_split (Ends st ∷ fs) (x ∷ xs) = omega (arith, length_split fs xs)
+  length_split (None ∷ fs) (x ∷ xs) = omega (arith, length_split fs xs)
+  length_split (Some st ∷ fs) (x ∷ xs) = omega (arith, length_split fs xs)
 
   pub count_kept_le : (p : A → Bool) (fs : List Fate) (xs : List A) → count p (kept fs xs) ≤ count p xs
   count_kept_le p fs xs = omega (arith, count_split p fs xs)
@@ -39,26 +39,26 @@ module _ {A : Type 0} where
   pub any_kept : (p : A → Bool) (fs : List Fate) (xs : List A) → any p xs ≡ false → any p (kept fs xs) ≡ false
   any_kept p [] xs e = e
   any_kept p (f ∷ fs) [] e = refl
-  any_kept p (Stays ∷ fs) (x ∷ xs) e =
+  any_kept p (None ∷ fs) (x ∷ xs) e =
       let o : (p x ≡ false) × (any p xs ≡ false) = or-false (p x) (any p xs) e in
       rw o.0 (any_kept p fs xs o.1)
-  any_kept p (Ends st ∷ fs) (x ∷ xs) e = any_kept p fs xs (or-false (p x) (any p xs) e).1
+  any_kept p (Some st ∷ fs) (x ∷ xs) e = any_kept p fs xs (or-false (p x) (any p xs) e).1
 
   pub any_lost : (p : A → Bool) (fs : List Fate) (xs : List A) → any p xs ≡ false → any p (lost fs xs) ≡ false
   any_lost p [] xs e = refl
   any_lost p (f ∷ fs) [] e = refl
-  any_lost p (Stays ∷ fs) (x ∷ xs) e = any_lost p fs xs (or-false (p x) (any p xs) e).1
-  any_lost p (Ends st ∷ fs) (x ∷ xs) e = let o = or-false (p x) (any p xs) e in rw o.0 (any_lost p fs xs o.1)
+  any_lost p (None ∷ fs) (x ∷ xs) e = any_lost p fs xs (or-false (p x) (any p xs) e).1
+  any_lost p (Some st ∷ fs) (x ∷ xs) e = let o = or-false (p x) (any p xs) e in rw o.0 (any_lost p fs xs o.1)
 
   gone_cons :
       (q : A → Bool) (f : Fate) (fs : List Fate) (x : A) (xs : List A) → q x && not (is_ends f) ≡ false
       → any q (kept fs xs) ≡ false → any q (kept (f ∷ fs) (x ∷ xs)) ≡ false
-  gone_cons q Stays fs x xs e h = rw (go (q x) e) h
+  gone_cons q None fs x xs e h = rw (go (q x) e) h
     where
       go : (b : Bool) → b && true ≡ false → b ≡ false
       go true k = k
       go false k = k
-  gone_cons q (Ends st) fs x xs e h = h
+  gone_cons q (Some st) fs x xs e h = h
 
   -- where each that passes q ends, none that passes q is left
   pub gone :
@@ -79,8 +79,8 @@ module _ {A : Type 0} where
       go :
           (f : Fate) → is_ends f ≡ true → (kept (map fate xs) xs ≡ []) × (lost (map fate xs) xs ≡ xs)
           → (kept (f ∷ map fate xs) (x ∷ xs) ≡ []) × (lost (f ∷ map fate xs) (x ∷ xs) ≡ x ∷ xs)
-      go Stays e rest = not_both e refl
-      go (Ends st) e rest = (rest.0, ap (λ (l : List A). x ∷ l) rest.1)
+      go None e rest = not_both e refl
+      go (Some st) e rest = (rest.0, ap (λ (l : List A). x ∷ l) rest.1)
 
   -- where just those that pass q end, the others stay, all of them, in their order
   pub kept_others : (q : A → Bool) (st : ℕ) (xs : List A) → kept (map (λ x. end_if (q x) st) xs) xs ≡ passing (λ x. not (q x)) xs
@@ -100,18 +100,18 @@ module _ {A : Type 0} where
   count_cons_le :
       (q : A → Bool) (f : Fate) (fs : List Fate) (x : A) (xs : List A)
       → count q (kept (f ∷ fs) (x ∷ xs)) ≤ one_if (q x) + count q (kept fs xs)
-  count_cons_le q Stays fs x xs = omega arith
-  count_cons_le q (Ends st) fs x xs = omega arith
+  count_cons_le q None fs x xs = omega arith
+  count_cons_le q (Some st) fs x xs = omega arith
 
   count_cons_ends :
       (q : A → Bool) (f : Fate) (fs : List Fate) (x : A) (xs : List A) → is_ends f ≡ true
       → count q (kept (f ∷ fs) (x ∷ xs)) ≤ count q xs
-  count_cons_ends q Stays fs x xs e = not_both e refl
-  count_cons_ends q (Ends st) fs x xs e = count_kept_le q fs xs
+  count_cons_ends q None fs x xs e = not_both e refl
+  count_cons_ends q (Some st) fs x xs e = count_kept_le q fs xs
 
   -- one that passes q ends: fewer pass
   pub count_falls :
-      (p q : A → Bool) (fate : A → Fate) (xs : List A) (y : A) → first p xs ≡ some y → q y ≡ true → is_ends (fate y) ≡ true
+      (p q : A → Bool) (fate : A → Fate) (xs : List A) (y : A) → first p xs ≡ Some y → q y ≡ true → is_ends (fate y) ≡ true
       → count q (kept (map fate xs) xs) < count q xs
   count_falls p q fate [] y h k e = none_some y h
   count_falls p q fate (x ∷ xs) y h k e =
@@ -129,35 +129,35 @@ length_kept [] xs ys e = e
 length_kept (f ∷ fs) [] [] e = refl
 length_kept (f ∷ fs) [] (y ∷ ys) e = absurd (omega arith)
 length_kept (f ∷ fs) (x ∷ xs) [] e = absurd (omega arith)
-length_kept (Stays ∷ fs) (x ∷ xs) (y ∷ ys) e = ap suc (length_kept fs xs ys (omega arith))
-length_kept (Ends st ∷ fs) (x ∷ xs) (y ∷ ys) e = length_kept fs xs ys (omega arith)
+length_kept (None ∷ fs) (x ∷ xs) (y ∷ ys) e = ap suc (length_kept fs xs ys (omega arith))
+length_kept (Some st ∷ fs) (x ∷ xs) (y ∷ ys) e = length_kept fs xs ys (omega arith)
 
 module _ {A B : Type 0} (g : A → B) where
   pub map_kept : (fs : List Fate) (xs : List A) → map g (kept fs xs) ≡ kept fs (map g xs)
   map_kept [] xs = refl
   map_kept (f ∷ fs) [] = refl
-  map_kept (Stays ∷ fs) (x ∷ xs) = rw (map_kept fs xs)
-  map_kept (Ends st ∷ fs) (x ∷ xs) = map_kept fs xs
+  map_kept (None ∷ fs) (x ∷ xs) = rw (map_kept fs xs)
+  map_kept (Some st ∷ fs) (x ∷ xs) = map_kept fs xs
 
   pub map_lost : (fs : List Fate) (xs : List A) → map g (lost fs xs) ≡ lost fs (map g xs)
   map_lost [] xs = refl
   map_lost (f ∷ fs) [] = refl
-  map_lost (Stays ∷ fs) (x ∷ xs) = map_lost fs xs
-  map_lost (Ends st ∷ fs) (x ∷ xs) = rw (map_lost fs xs)
+  map_lost (None ∷ fs) (x ∷ xs) = map_lost fs xs
+  map_lost (Some st ∷ fs) (x ∷ xs) = rw (map_lost fs xs)
 
 -- there are as many ended records as tasks that ended
 pub length_ended : (fs : List Fate) (ts : List Task) → length (ended_from fs ts) ≡ length (lost fs ts)
 length_ended [] ts = refl
 length_ended (f ∷ fs) [] = refl
-length_ended (Stays ∷ fs) (t ∷ ts) = length_ended fs ts
-length_ended (Ends st ∷ fs) (t ∷ ts) = omega (arith, length_ended fs ts)
+length_ended (None ∷ fs) (t ∷ ts) = length_ended fs ts
+length_ended (Some st ∷ fs) (t ∷ ts) = omega (arith, length_ended fs ts)
 
 -- the report has the names of those that ended
 pub report_names : (fs : List Fate) (ts : List Task) → map ended_name (ended_from fs ts) ≡ map task_name (lost fs ts)
 report_names [] ts = refl
 report_names (f ∷ fs) [] = refl
-report_names (Stays ∷ fs) (t ∷ ts) = report_names fs ts
-report_names (Ends st ∷ fs) (t ∷ ts) = rw (report_names fs ts)
+report_names (None ∷ fs) (t ∷ ts) = report_names fs ts
+report_names (Some st ∷ fs) (t ∷ ts) = rw (report_names fs ts)
 
 -- under the sweep of nobody all stay, and none ends
 pub all_stay : (ts : List Task) → kept (map (fate_of Nobody) ts) ts ≡ ts

@@ -1,7 +1,7 @@
 -- Laws that the plausible errors of RULES 26.13, and the faults found in the field, would break.
+use Rattle.std.specs.Prelude.{Some, None, Option}
 use Prim.Native.Nat.{ℕ, zero, suc, ◌+◌, ◌<◌}
 use mathlib.Core.Bool.{Bool, true, false}
-use mathlib.Core.Option.{Option, none, some}
 use mathlib.Core.Path.{◌≡◌, refl, ap, ◌∙◌}
 use mathlib.Core.List.{List, [], ◌∷◌, ◌++◌, map, append-nil}
 use native.Mathlib.Omega.{arith}
@@ -10,7 +10,7 @@ use lib.ListN.{length, get_or, replicate}
 use borrow.Author.Tests.{lt-ltb, eq-eqb}
 use Rattle.laws.specs.Lists.{any, first}
 use Rattle.laws.proofs.Bools.{not_both, cases}
-use Rattle.rules.specs.Types.{Attribute, Simple, HeadOfQueue, Ordered, Aca, Task, Finish, Management, Condition, AbortTask, AbortTaskSet, PowerOn, Allegiance, Clear, Header, Pending, Bit, Top, NoBit, Highest, AllTasks, FailedTask, Policy, EndAll}
+use Rattle.rules.specs.Types.{Attribute, Simple, HeadOfQueue, Ordered, Aca, Task, Finish, Management, Condition, AbortTask, AbortTaskSet, PowerOn, Allegiance, Header, Pending, Bit, AllTasks, FailedTask, Policy, EndAll}
 use Rattle.values.specs.Headers.{lasting, lasting_with, fresh_header, run_after}
 use Rattle.rules.specs.Tasks.{nexuses, is_plain, same, with_state, eligible, enabled_if, settle_from, restate}
 use Rattle.rules.specs.Bits.{no_pending, top, after_power_on}
@@ -31,7 +31,7 @@ settle_prefix older (t ∷ ts) us =
 
 -- a younger task, HEAD OF QUEUE or not, changes no older one's state
 pub younger_changes_none :
-    (a : Allegiance) (ts us : List Task) → (rest : List Task) × (restate a Clear (ts ++ us) ≡ restate a Clear ts ++ rest)
+    (a : Allegiance) (ts us : List Task) → (rest : List Task) × (restate a None (ts ++ us) ≡ restate a None ts ++ rest)
 younger_changes_none a ts us = settle_prefix [] ts us
 
 -- RULES 7.7
@@ -59,18 +59,14 @@ pub turn_resets_run : (h : Header) (f : Finish) (t : Task) → is_plain t.attrib
 turn_resets_run h f t e =
     finish_cases (λ c. c.header.run ≡ 0) h f t true (λ q. plain_resets t.attribute h.run e) (λ q. plain_resets t.attribute h.run e)
 
-abbrev pub top_is : Option Bit → Top
-top_is none = NoBit
-top_is (some b) = Highest b
-
 -- the bit reported is the first in rank that is set
-pub top_first : (p : Pending) → top p ≡ top_is (first (is_set p) ranks)
+pub top_first : (p : Pending) → top p ≡ first (is_set p) ranks
 top_first p = go p.power p.hard p.unit p.loss p.cleared
   where
     bits : Bool → Bool → Bool → Bool → Bool → Pending
     bits a b c d e = record { power = a; hard = b; unit = c; loss = d; cleared = e }
 
-    go : (a b c d e : Bool) → top (bits a b c d e) ≡ top_is (first (is_set (bits a b c d e)) ranks)
+    go : (a b c d e : Bool) → top (bits a b c d e) ≡ first (is_set (bits a b c d e)) ranks
     go true b c d e = refl
     go false true c d e = refl
     go false false true d e = refl
@@ -111,7 +107,7 @@ power_on_fresh s w = λ i. record { header = head i; pending = pend i; tasks = n
     none_left : after ≡ []
     none_left = rw (all_end (fate_of AllTasks) s.tasks (λ t. refl)).0
 
-    head : lasting_with s.header (length after) Clear 0 ≡ fresh_header (lasting s.header)
+    head : lasting_with s.header (length after) None 0 ≡ fresh_header (lasting s.header)
     head = rw (all_end (fate_of AllTasks) s.tasks (λ t. refl)).0
 
     pend : map after_power_on s.pending ≡ replicate nexuses (after_power_on no_pending)

@@ -1,14 +1,14 @@
 -- Laws of tables in an ACA.
+use Rattle.std.specs.Prelude.{Some, None}
 use Prim.Native.Nat.{ℕ}
 use mathlib.Core.Bool.{Bool, true, false, ◌&&◌, not, and-false as and_off}
 use mathlib.Core.Path.{◌≡◌, refl}
 use mathlib.Core.List.{List, [], ◌∷◌, ◌++◌, map}
-use mathlib.Core.Option.{some}
 use lib.Dec.{eqb}
 use Rattle.laws.specs.Lists.{any, first, is_nil}
 use Rattle.laws.proofs.Bools.{and-true, or-false, not_both, none_some, split}
 use Rattle.laws.proofs.Lists.{first_cases}
-use Rattle.rules.specs.Types.{Attribute, Simple, HeadOfQueue, Ordered, Aca, TaskState, Dormant, Enabled, Blocked, Task, Fate, Stays, Ends}
+use Rattle.rules.specs.Types.{Attribute, Simple, HeadOfQueue, Ordered, Aca, TaskState, Dormant, Enabled, Blocked, Task, Fate}
 use Rattle.rules.specs.Tasks.{is_aca, is_enabled, is_plain, aca_task, of_nexus, eligible, enabled_if, blocked_if_enabled, enabled_plain}
 use Rattle.rules.specs.Rulings.{kept}
 use Rattle.rules.specs.Well.{settled, held, held_task}
@@ -101,11 +101,11 @@ held_kept f [] fewer older (t ∷ ts) w e =
     (held_kept f [] (t.attribute ∷ fewer) (t.attribute ∷ older) ts (within_cons t.attribute fewer older w)
     (held_cons f older t ts e).1)
 held_kept f (x ∷ fs) fewer older [] w e = refl
-held_kept f (Stays ∷ fs) fewer older (t ∷ ts) w e =
+held_kept f (None ∷ fs) fewer older (t ∷ ts) w e =
     held_stays f fewer older t ts (kept fs ts) w (nil_kept fs ts) e
     (held_kept f fs (t.attribute ∷ fewer) (t.attribute ∷ older) ts (within_cons t.attribute fewer older w)
     (held_cons f older t ts e).1)
-held_kept f (Ends st ∷ fs) fewer older (t ∷ ts) w e =
+held_kept f (Some st ∷ fs) fewer older (t ∷ ts) w e =
     held_kept f fs fewer (t.attribute ∷ older) ts (within_drop t.attribute fewer older w) (held_cons f older t ts e).1
 
 -- an ACA begins: what was enabled is blocked
@@ -146,11 +146,11 @@ held_blocked f [] fewer older (t ∷ ts) w e =
     (held_blocked f [] (t.attribute ∷ fewer) (t.attribute ∷ older) ts (within_cons t.attribute fewer older w)
     (settled_cons older t ts e).rest)
 held_blocked f (x ∷ fs) fewer older [] w e = refl
-held_blocked f (Stays ∷ fs) fewer older (t ∷ ts) w e =
+held_blocked f (None ∷ fs) fewer older (t ∷ ts) w e =
     blocked_stays f fewer older t ts (map blocked_task (kept fs ts)) w e
     (held_blocked f fs (t.attribute ∷ fewer) (t.attribute ∷ older) ts (within_cons t.attribute fewer older w)
     (settled_cons older t ts e).rest)
-held_blocked f (Ends st ∷ fs) fewer older (t ∷ ts) w e =
+held_blocked f (Some st ∷ fs) fewer older (t ∷ ts) w e =
     held_blocked f fs fewer (t.attribute ∷ older) ts (within_drop t.attribute fewer older w) (settled_cons older t ts e).rest
 
 -- an ACA task joins
@@ -170,7 +170,7 @@ held_join f older (t ∷ ts) u e n p q r =
 -- only the ACA task is enabled, and it is of the faulted nexus
 pub held_found :
     (f : ℕ) (older : List Attribute) (p : Task → Bool) (ts : List Task) (t : Task) → held f older ts ≡ true
-    → first p ts ≡ some t → is_enabled t.state ≡ true → (is_aca t.attribute ≡ true) × (eqb t.nexus f ≡ true)
+    → first p ts ≡ Some t → is_enabled t.state ≡ true → (is_aca t.attribute ≡ true) × (eqb t.nexus f ≡ true)
 held_found f older p [] t e h n = (none_some t h, none_some t h)
 held_found f older p (u ∷ us) t e h n =
     let o = held_cons f older u us e in
@@ -186,7 +186,7 @@ held_found f older p (u ∷ us) t e h n =
 -- there is one ACA task: where the first that passes is one, each passes
 pub held_one :
     (f : ℕ) (older : List Attribute) (p : Task → Bool) (ts : List Task) (t : Task) → held f older ts ≡ true
-    → first p ts ≡ some t → is_aca t.attribute ≡ true → any (λ u. aca_task u && not (p u)) ts ≡ false
+    → first p ts ≡ Some t → is_aca t.attribute ≡ true → any (λ u. aca_task u && not (p u)) ts ≡ false
 held_one f older p [] t e h n = refl
 held_one f older p (u ∷ []) t e h n =
     first_cases p u [] t h (λ k q. rw (k, and_off (aca_task u))) (λ k q. none_some t q)

@@ -1,11 +1,12 @@
 -- The mission's accident cannot happen: nothing younger overtakes an ORDERED write, nor a HEAD OF QUEUE task.
+use Rattle.std.specs.Prelude.{Some, None}
 use mathlib.Core.Bool.{Bool, true, false}
 use mathlib.Core.Path.{◌≡◌, refl}
 use mathlib.Core.List.{List, [], ◌∷◌, ◌++◌}
 use Rattle.laws.specs.Lists.{any}
 use Rattle.laws.proofs.Bools.{or-false}
 use Rattle.laws.proofs.Lists.{any_suffix}
-use Rattle.rules.specs.Types.{Attribute, Simple, Task, Allegiance, Clear, Faulted}
+use Rattle.rules.specs.Types.{Attribute, Simple, Task, Allegiance}
 use Rattle.rules.specs.Tasks.{aca_task, enabled_task, enabled_plain, holds_back}
 use Rattle.rules.specs.Rulings.{State}
 use Rattle.rules.specs.Well.{Stands, WellFormed, settled, states_fit}
@@ -27,8 +28,8 @@ behind_settled older (u ∷ us) t post e a =
 behind_any :
     (a : Allegiance) (pre : List Task) (t : Task) (post : List Task) → states_fit a (pre ++ t ∷ post) ≡ true
     → is_barrier t.attribute ≡ true → any enabled_plain post ≡ false
-behind_any Clear pre t post e h = behind_settled [] pre t post e h
-behind_any (Faulted f) pre t post e h =
+behind_any None pre t post e h = behind_settled [] pre t post e h
+behind_any (Some f) pre t post e h =
     (or-false (enabled_plain t) _ (any_suffix enabled_plain pre (t ∷ post) (held_plain f [] (pre ++ t ∷ post) e))).1
 
 -- while an ORDERED or HEAD OF QUEUE task is in the table, no younger SIMPLE or ORDERED task is enabled, ACA or not
@@ -39,10 +40,10 @@ no_overtaking s older t younger w e h = behind_any s.header.aca older t younger 
 
 -- without ACA the oldest task is enabled
 pub oldest_runs :
-    (s : State) (t : Task) (younger : List Task) → WellFormed s → s.header.aca ≡ Clear → Stands s.tasks [] t younger
+    (s : State) (t : Task) (younger : List Task) → WellFormed s → s.header.aca ≡ None → Stands s.tasks [] t younger
     → enabled_task t ≡ true
 oldest_runs s t younger w c e = oldest_enabled t younger (rw e at (clear_settled s w c))
 
 -- no task with attribute ACA outlives its ACA
-pub no_aca_task : (s : State) → WellFormed s → s.header.aca ≡ Clear → any aca_task s.tasks ≡ false
+pub no_aca_task : (s : State) → WellFormed s → s.header.aca ≡ None → any aca_task s.tasks ≡ false
 no_aca_task s w c = settled_ordinary [] s.tasks (clear_settled s w c)

@@ -1,11 +1,12 @@
 -- RULES 1.13: what lasts of the header is as it was after every event.
+use Rattle.std.specs.Prelude.{Option, Some, None}
 use Prim.Native.Nat.{ℕ}
 use mathlib.Core.Bool.{Bool}
 use mathlib.Core.Path.{◌≡◌, refl}
 use lib.Dec.{eqb}
 use Rattle.laws.proofs.Bools.{cases}
 use Rattle.values.specs.Headers.{lasting}
-use Rattle.rules.specs.Types.{Task, Entry, Finish, Function, AbortTask, AbortTaskSet, ClearTaskSet, ClearAca, LogicalUnitReset, Unknown, Happening, PowerOn, HardReset, NexusLoss, Event, Allegiance, Clear, Faulted, Top, Sweep, Changes, Done, Ruling}
+use Rattle.rules.specs.Types.{Task, Entry, Finish, Function, AbortTask, AbortTaskSet, ClearTaskSet, ClearAca, LogicalUnitReset, Unknown, Happening, PowerOn, HardReset, NexusLoss, Event, Allegiance, Sweep, Changes, Done, Ruling, Bit}
 use Rattle.rules.specs.Rulings.{State, ruled}
 use Rattle.rules.specs.Rules.{failing, finish, clearing, manage, happen, ruling}
 use Rattle.rules.proofs.Cases.{enter_cases, failing_cases, finish_cases, completion_cases, other_cases}
@@ -17,12 +18,12 @@ module _ (s : State) where
   by_finish : (f : Finish) (t : Task) (named : Bool) → survives (Changes Done (finish s.header f t named))
   by_finish f t named = finish_cases (λ c. survives (Changes Done c)) s.header f t named (λ q. refl) (λ q. refl)
 
-  by_failing : (c : Entry) (w : Sweep) (o : Top) → survives (Changes Done (failing s.header.aca s.header c w o))
+  by_failing : (c : Entry) (w : Sweep) (o : Option Bit) → survives (Changes Done (failing s.header.aca s.header c w o))
   by_failing c w o = failing_cases (λ d. survives (Changes Done d)) s.header c w o (λ a. refl) (λ f a. refl)
 
   by_clearing : (n : ℕ) (a : Allegiance) → survives (clearing s.header n a)
-  by_clearing n Clear = refl
-  by_clearing n (Faulted f) = cases survives (eqb n f) (λ e. refl) (λ e. refl)
+  by_clearing n None = refl
+  by_clearing n (Some f) = cases survives (eqb n f) (λ e. refl) (λ e. refl)
 
   by_function_lem : (n : ℕ) (f : Function) → survives (manage s.header n f)
   unfolding manage

@@ -1,16 +1,16 @@
 -- Where the answers 5, 6, 7 and 8 stand: the rules agree with specs/Refusals. With them answer 4, and what stands with 7.
+use Rattle.std.specs.Prelude.{Some, None, Option}
 use Prim.Native.Nat.{ℕ, ◌≤◌, ◌<◌}
 use mathlib.Core.Bool.{Bool, true, false, cond, ◌&&◌, not}
 use mathlib.Core.Path.{◌≡◌, refl, sym, ◌∙◌}
 use mathlib.Core.Logic.{◌↔◌}
-use mathlib.Core.Option.{Option, none, some}
 use native.Mathlib.Omega.{arith}
 use lib.Dec.{eqb, ltb, leb}
 use borrow.Author.Tests.{not-true, not-false, ltb-false, leb-true, leb-false, eqb-true, eqb-false, ne_eqb}
 use Rattle.laws.specs.Lists.{any, first}
 use Rattle.laws.proofs.Bools.{and-true, and-false, or-false, not_both, cases, split}
 use Rattle.laws.proofs.Lists.{first_passes, first_any, first_none}
-use Rattle.rules.specs.Types.{Simple, HeadOfQueue, Ordered, Aca, Task, Asked, Known, NoneOfFour, Entry, Finish, Function, AbortTask, AbortTaskSet, ClearTaskSet, ClearAca, LogicalUnitReset, Unknown, Happening, PowerOn, HardReset, NexusLoss, Event, Command, Completion, Management, Condition, Allegiance, Clear, Faulted, Pending, Bit, NoBit, Highest, Sense, Answer, Done, BadTable, BadReport, BadEvent, NexusAboveSeven, NoSuchTask, NotEnabled, EndedAtEntry, Rejected, BadPolicy}
+use Rattle.rules.specs.Types.{Simple, HeadOfQueue, Ordered, Aca, Task, Entry, Finish, Function, AbortTask, AbortTaskSet, ClearTaskSet, ClearAca, LogicalUnitReset, Unknown, Happening, PowerOn, HardReset, NexusLoss, Event, Command, Completion, Management, Condition, Allegiance, Pending, Bit, Sense, Answer, Done, BadTable, BadReport, BadEvent, NexusAboveSeven, NoSuchTask, NotEnabled, EndedAtEntry, Rejected, BadPolicy, Attribute}
 use Rattle.rules.specs.Tasks.{places, nexuses, is_aca, is_enabled, aca_task, same, enabled_task, is_named}
 use Rattle.rules.specs.Bits.{top}
 use Rattle.rules.specs.Rulings.{State, pending_of, turn, answer_of}
@@ -22,42 +22,34 @@ use Rattle.rules.proofs.Distinct.{distinct_first}
 use Rattle.rules.proofs.Cases.{stop, check_cases, Passed, enter_cases, check2_none, ruling_low, ruling_high, rule_command, rule_completion, rule_management}
 use Rattle.rules.proofs.WellSays.{says_tested}
 use Rattle.rules.proofs.Telling.{every_bit}
-use Rattle.rules.proofs.FieldErrors.{top_is, top_first}
+use Rattle.rules.proofs.FieldErrors.{top_first}
 
 -- The checks one by one --------------------------------------------------------------------------------------------------------------------
 
-asks_known : (a : Asked) → asks_aca a ≡ true → a ≡ Known Aca
-asks_known (Known Simple) e = not_both e refl
-asks_known (Known HeadOfQueue) e = not_both e refl
-asks_known (Known Ordered) e = not_both e refl
-asks_known (Known Aca) e = refl
-asks_known NoneOfFour e = not_both e refl
+asks_known : (a : Option Attribute) → asks_aca a ≡ true → a ≡ Some Aca
+asks_known (Some Simple) e = not_both e refl
+asks_known (Some HeadOfQueue) e = not_both e refl
+asks_known (Some Ordered) e = not_both e refl
+asks_known (Some Aca) e = refl
+asks_known None e = not_both e refl
 
 -- no bit to report: none is set
-no_bit : (p : Pending) (b : Bit) → top p ≡ NoBit → is_set p b ≡ false
+no_bit : (p : Pending) (b : Bit) → top p ≡ None → is_set p b ≡ false
 no_bit p b e =
-    let o0 = or-false p.power _ (first_none (is_set p) ranks (go (first (is_set p) ranks) (sym (top_first p) ∙ e))) in
+    let o0 = or-false p.power _ (first_none (is_set p) ranks (sym (top_first p) ∙ e)) in
     let o1 = or-false p.hard _ o0.1 in
     let o2 = or-false p.unit _ o1.1 in
     let o3 = or-false p.loss _ o2.1 in
     every_bit (λ x. is_set p x ≡ false) o0.0 o1.0 o2.0 o3.0 (or-false p.cleared _ o3.1).0 b
-  where
-    go : (o : Option Bit) → top_is o ≡ NoBit → o ≡ none
-    go none q = refl
-    go (some x) q = absurd (let z : ◌≡◌ {A = ℕ} 0 1 = cc in omega arith)
 
 -- the bit to report is set, and the command is not exempt
-bit_set : (exempt : Bool) (p : Pending) (b : Bit) → cond exempt NoBit (top p) ≡ Highest b → (exempt ≡ false) × (is_set p b ≡ true)
+bit_set : (exempt : Bool) (p : Pending) (b : Bit) → cond exempt None (top p) ≡ Some b → (exempt ≡ false) × (is_set p b ≡ true)
 bit_set true p b e = absurd (let z : ◌≡◌ {A = ℕ} 0 1 = cc in omega arith)
-bit_set false p b e = (refl, first_passes (is_set p) ranks b (go (first (is_set p) ranks) (sym (top_first p) ∙ e)))
-  where
-    go : (o : Option Bit) → top_is o ≡ Highest b → o ≡ some b
-    go none q = absurd (let z : ◌≡◌ {A = ℕ} 0 1 = cc in omega arith)
-    go (some x) q = let z : x ≡ b = cc in rw z
+bit_set false p b e = (refl, first_passes (is_set p) ranks b (sym (top_first p) ∙ e))
 
 module _ (s : State) (c : Entry) where
   -- each check that stops the command
-  active_stops : (f : ℕ) → s.header.aca ≡ Faulted f → asks_aca c.asked && not (any aca_task s.tasks) ≡ false → Stopped s c
+  active_stops : (f : ℕ) → s.header.aca ≡ Some f → asks_aca c.asked && not (any aca_task s.tasks) ≡ false → Stopped s c
   active_stops f a k =
       split (asks_aca c.asked)
       (λ q. aca_task_present a (not-false _ (and-false (asks_aca c.asked) _ k q)))
@@ -66,10 +58,10 @@ module _ (s : State) (c : Entry) where
   bad_stops : bad_attribute s.header.aca c.asked ≡ true → Stopped s c
   bad_stops = go c.asked s.header.aca refl refl
     where
-      go : (x : Asked) (a : Allegiance) → c.asked ≡ x → s.header.aca ≡ a → bad_attribute a x ≡ true → Stopped s c
-      go NoneOfFour a p q e = none_of_four p
-      go (Known t) (Faulted f) p q e = not_both (and-true (is_aca t) _ e).1 refl
-      go (Known t) Clear p q e = aca_without_aca (p ∙ asks_known (Known t) (and-true (is_aca t) _ e).0) q
+      go : (x : Option Attribute) (a : Allegiance) → c.asked ≡ x → s.header.aca ≡ a → bad_attribute a x ≡ true → Stopped s c
+      go None a p q e = none_of_four p
+      go (Some t) (Some f) p q e = not_both (and-true (is_aca t) _ e).1 refl
+      go (Some t) None p q e = aca_without_aca (p ∙ asks_known (Some t) (and-true (is_aca t) _ e).0) q
 
   full_stops : WellFormed s → leb places s.header.count ≡ true → Stopped s c
   full_stops w e = full (omega (arith, leb-true places s.header.count e, w.counted, w.few))
@@ -138,8 +130,8 @@ module _ (s : State) where
       go :
           (o : Option Task) → first (same n g) s.tasks ≡ o
           → Says s (Completion n g f) (answer_of (complete s.header o f (is_named n g (turn s))))
-      go none e = no_such_task (first_none (same n g) s.tasks e)
-      go (some t) e =
+      go None e = no_such_task (first_none (same n g) s.tasks e)
+      go (Some t) e =
           cases (λ r. Says s (Completion n g f) (answer_of r)) (is_enabled t.state) (λ k. tt)
           (λ k.
           not_enabled
@@ -154,8 +146,8 @@ module _ (s : State) where
   says_management n ClearAca = go s.header.aca refl
     where
       go : (a : Allegiance) → s.header.aca ≡ a → Says s (Management n ClearAca) (answer_of (clearing s.header n a))
-      go Clear e = tt
-      go (Faulted f) e =
+      go None e = tt
+      go (Some f) e =
           cases (λ r. Says s (Management n ClearAca) (answer_of r)) (eqb n f) (λ k. tt) (λ k. not_faulted e (eqb-false n f k))
   says_management n LogicalUnitReset = tt
   says_management n Unknown = unknown_function
@@ -199,8 +191,8 @@ absent_says s e low = (λ a. rw a at (says s e), back e low)
         rw (answer_low s (Completion n g f) l, rule_completion s n g f) (go (first (same n g) s.tasks) refl)
       where
         go : (o : Option Task) → first (same n g) s.tasks ≡ o → answer_of (complete s.header o f (is_named n g (turn s))) ≡ NoSuchTask
-        go none q = refl
-        go (some t) q = not_both (first_any (same n g) (same n g) s.tasks t q (first_passes (same n g) s.tasks t q)) x
+        go None q = refl
+        go (Some t) q = not_both (first_any (same n g) (same n g) s.tasks t q (first_passes (same n g) s.tasks t q)) x
     back (Command _) l x = elim x [ ]
     back (Management _ _) l x = elim x [ ]
     back (Condition _) l x = elim x [ ]
@@ -217,8 +209,8 @@ waits_says s e w low = (λ a. rw a at (says s e), back e low)
         waiting t = same n g t && not (enabled_task t)
 
         go : (o : Option Task) → first waiting s.tasks ≡ o → answer s (Completion n g f) ≡ NotEnabled
-        go none q = not_both x (first_none waiting s.tasks q)
-        go (some t) q =
+        go None q = not_both x (first_none waiting s.tasks q)
+        go (Some t) q =
             let o = and-true (same n g t) (not (enabled_task t)) (first_passes waiting s.tasks t q) in
             rw (
               answer_low s (Completion n g f) l,

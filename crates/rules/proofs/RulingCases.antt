@@ -1,9 +1,10 @@
 -- A ruling by its answer, as laws for whoever argues by cases and need not know the rule.
+use Rattle.std.specs.Prelude.{Some, None}
 use Prim.Native.Nat.{ℕ}
 use mathlib.Core.Path.{◌≡◌}
 use lib.Dec.{eqb, ltb}
 use Rattle.laws.proofs.Bools.{cases}
-use Rattle.rules.specs.Types.{Entry, Function, AbortTask, AbortTaskSet, ClearTaskSet, ClearAca, LogicalUnitReset, Unknown, Happening, PowerOn, HardReset, NexusLoss, Event, Command, Allegiance, Clear, Faulted, NoTask, Change, Sense, Answer, Done, NexusAboveSeven, NoSuchTask, NotEnabled, EndedAtEntry, Rejected, Ruling, Keeps, Changes}
+use Rattle.rules.specs.Types.{Entry, Function, AbortTask, AbortTaskSet, ClearTaskSet, ClearAca, LogicalUnitReset, Unknown, Happening, PowerOn, HardReset, NexusLoss, Event, Command, Allegiance, Change, Sense, Answer, Done, NexusAboveSeven, NoSuchTask, NotEnabled, EndedAtEntry, Rejected, Ruling, Keeps, Changes}
 use Rattle.rules.specs.Tasks.{nexuses}
 use Rattle.rules.specs.Rulings.{State}
 use Rattle.rules.specs.Rules.{accepting, clearing, manage, happen, rule_for, ruling}
@@ -24,8 +25,8 @@ ruling_cases P s e keeps done ends =
     e
   where
     clears : (n : ℕ) (a : Allegiance) → P (clearing s.header n a)
-    clears n Clear = keeps Done
-    clears n (Faulted f) = cases P (eqb n f) (λ e. done _) (λ e. keeps Rejected)
+    clears n None = keeps Done
+    clears n (Some f) = cases P (eqb n f) (λ e. done _) (λ e. keeps Rejected)
 
     manages : (n : ℕ) (f : Function) → P (manage s.header n f)
     manages n (AbortTask g) = done _
@@ -43,7 +44,7 @@ ruling_cases P s e keeps done ends =
 -- a command is accepted, or answered otherwise and nobody joins
 pub command_cases :
     (P : Ruling → Type 0) (s : State) (c : Entry) → P (Keeps NexusAboveSeven) → ((st : ℕ) (se : Sense) → P (Keeps (EndedAtEntry st se)))
-    → ((st : ℕ) (se : Sense) (d : Change) → d.joins ≡ NoTask → P (Changes (EndedAtEntry st se) d))
+    → ((st : ℕ) (se : Sense) (d : Change) → d.joins ≡ None → P (Changes (EndedAtEntry st se) d))
     → P (Changes Done (accepting s.header c))
     → P (ruling s (Command c))
 unfolding ruling rule_for

@@ -1,4 +1,5 @@
 -- What an attention does to each bit, by its rank, and what a notice brings to each nexus: who is told.
+use Rattle.std.specs.Prelude.{Option, Some, None}
 use Prim.Native.Nat.{ℕ, zero, suc, ◌+◌, ◌<◌}
 use mathlib.Core.Bool.{Bool, true, false, cond, ◌&&◌, not}
 use mathlib.Core.Path.{◌≡◌, refl, ap, ◌∙◌}
@@ -10,7 +11,7 @@ use lib.Seq.{get_or-set_same, get_or-set_other}
 use borrow.Author.Tests.{eqb-true, eqb-false}
 use Rattle.laws.specs.Lists.{any}
 use Rattle.laws.proofs.Bools.{cases, split}
-use Rattle.rules.specs.Types.{Task, Qerr, EndNone, EndAll, EndNexus, Pending, Bit, PowerBit, HardBit, UnitBit, LossBit, ClearedBit, Top, NoBit, Highest, Sweep}
+use Rattle.rules.specs.Types.{Task, Qerr, EndNone, EndAll, EndNexus, Pending, Bit, PowerBit, HardBit, UnitBit, LossBit, ClearedBit, Sweep}
 use Rattle.rules.specs.Tasks.{of_nexus}
 use Rattle.rules.specs.Bits.{no_pending, without, after_power_on, after_hard_reset, after_unit_reset, after_nexus_loss, after_cleared}
 use Rattle.rules.specs.Rulings.{State, pending_of, lost, fate_of, tell_losers_from, noted}
@@ -60,9 +61,9 @@ rank_place = every_bit (λ b. get_or ranks (rank b) PowerBit ≡ b) refl refl re
 -- By notice -------------------------------------------------------------------------------------------------------------------------------
 
 -- what check 3 says to a nexus
-abbrev pub tells : Top → Attention
-tells NoBit = Unmoved
-tells (Highest b) = Reports b
+abbrev pub tells : Option Bit → Attention
+tells None = Unmoved
+tells (Some b) = Reports b
 
 module _ (i n : ℕ) (ls : List Task) where
   told_losers :
@@ -78,31 +79,31 @@ module _ (i n : ℕ) (ls : List Task) where
   told_losers j (suc k) (p ∷ ps) e l = told_losers (suc j) k ps (omega arith) (omega arith)
 
   -- the bit reported to nexus n, if there is one, and bit 4 of another that lost a task, if others are told
-  abbrev pub told_to : Top → Bool → Attention
+  abbrev pub told_to : Option Bit → Bool → Attention
   told_to o others = cond (eqb i n) (tells o) (cond (others && any (of_nexus i) ls) (Gets ClearedBit) Unmoved)
 
   module _ (ps : List Pending) (low : i < length ps) where
-    losers_told : get_or (tell_losers_from 0 n ls ps) i no_pending ≡ changed (told_to NoBit true) (get_or ps i no_pending)
+    losers_told : get_or (tell_losers_from 0 n ls ps) i no_pending ≡ changed (told_to None true) (get_or ps i no_pending)
     losers_told = told_losers 0 i ps (omega arith) low ∙ ap (λ a. changed a (get_or ps i no_pending)) (go (eqb i n))
       where
         go : (b : Bool) → cond (not b && any (of_nexus i) ls) (Gets ClearedBit) Unmoved ≡ cond b Unmoved (cond (any (of_nexus i) ls) (Gets ClearedBit) Unmoved)
         go true = refl
         go false = refl
 
-    bit_told : (b : Bit) → get_or (set ps n (without b (get_or ps n no_pending))) i no_pending ≡ changed (told_to (Highest b) false) (get_or ps i no_pending)
+    bit_told : (b : Bit) → get_or (set ps n (without b (get_or ps n no_pending))) i no_pending ≡ changed (told_to (Some b) false) (get_or ps i no_pending)
     bit_told b =
         split (eqb i n) (λ k. let z : i ≡ n = eqb-true i n k in rw (k, ← z) (get_or-set_same ps i _ no_pending low))
         (λ k. rw k (get_or-set_other ps n i _ no_pending (eqb-false i n k)))
 
   pub told_bits :
-      (o : Top) (others : Bool) (ps : List Pending) → i < length ps
+      (o : Option Bit) (others : Bool) (ps : List Pending) → i < length ps
       → get_or (noted (telling n o others) ls ps) i no_pending ≡ changed (told_to o others) (get_or ps i no_pending)
-  told_bits NoBit false ps low = cases (λ a. get_or ps i no_pending ≡ changed a (get_or ps i no_pending)) (eqb i n) (λ k. refl) (λ k. refl)
-  told_bits NoBit true ps low = losers_told ps low
-  told_bits (Highest b) false ps low = bit_told ps low b
-  told_bits (Highest b) true ps low =
+  told_bits None false ps low = cases (λ a. get_or ps i no_pending ≡ changed a (get_or ps i no_pending)) (eqb i n) (λ k. refl) (λ k. refl)
+  told_bits None true ps low = losers_told ps low
+  told_bits (Some b) false ps low = bit_told ps low b
+  told_bits (Some b) true ps low =
       losers_told (set ps n (without b (get_or ps n no_pending))) (omega (arith, length-set ps n (without b (get_or ps n no_pending))))
-      ∙ ap (changed (told_to NoBit true)) (bit_told ps low b)
+      ∙ ap (changed (told_to None true)) (bit_told ps low b)
       ∙ go (eqb i n) (cond (any (of_nexus i) ls) (Gets ClearedBit) Unmoved) (get_or ps i no_pending)
     where
       go : (own : Bool) (a : Attention) (p : Pending) → changed (cond own Unmoved a) (changed (cond own (Reports b) Unmoved) p) ≡ changed (cond own (Reports b) a) p
@@ -112,7 +113,7 @@ module _ (i n : ℕ) (ls : List Task) where
 module _ (s : State) (i : ℕ) (here : i < length s.pending) where
   -- all tasks end by the sweep w, for nexus n
   pub cleared_after :
-      (n : ℕ) (o : Top) (w : Sweep) → ((t : Task) → is_ends (fate_of w t) ≡ true)
+      (n : ℕ) (o : Option Bit) (w : Sweep) → ((t : Task) → is_ends (fate_of w t) ≡ true)
       → get_or (noted (telling n o (not s.header.policy.tas)) (lost (map (fate_of w) s.tasks) s.tasks) s.pending) i no_pending
       ≡ changed (cond (eqb i n) (tells o) (cleared_by s n i)) (pending_of s i)
   cleared_after n o w all =
@@ -143,7 +144,7 @@ module _ (s : State) (i : ℕ) (here : i < length s.pending) where
 
   -- QERR, by whether it is applied
   pub by_qerr :
-      (n : ℕ) (o : Top) (w : Sweep) (q : Qerr) → (q ≡ EndAll → (t : Task) → is_ends (fate_of w t) ≡ true)
+      (n : ℕ) (o : Option Bit) (w : Sweep) (q : Qerr) → (q ≡ EndAll → (t : Task) → is_ends (fate_of w t) ≡ true)
       → get_or (noted (telling n o (tells_others q s.header.policy.tas)) (lost (map (fate_of w) s.tasks) s.tasks) s.pending) i no_pending
       ≡ changed (cond (eqb i n) (tells o) (cond (ends_others q) (cleared_by s n i) Unmoved)) (pending_of s i)
   by_qerr n o w EndNone all = told_bits i n (lost (map (fate_of w) s.tasks) s.tasks) o false s.pending here

@@ -1,16 +1,16 @@
 -- Laws of the turn rule, most of them in a table without ACA.
+use Rattle.std.specs.Prelude.{Some, None, Option}
 use Prim.Native.Nat.{ℕ, ◌≤◌, ◌<◌}
 use mathlib.Core.Bool.{Bool, true, false, ◌||◌, ◌&&◌, not, or-true as or_on}
 use mathlib.Core.Path.{◌≡◌, refl, ap}
 use mathlib.Core.List.{List, [], ◌∷◌, ◌++◌}
-use mathlib.Core.Option.{Option, none, some}
 use native.Mathlib.Omega.{arith}
 use lib.Dec.{ltb}
 use borrow.Author.Tests.{ltb-true, ltb-false, lt-ltb, not-true}
 use Rattle.laws.specs.Lists.{one_if, any, count, first}
 use Rattle.laws.proofs.Bools.{and-true, and-false, or-false, or-true, not_both, none_some, cases, split}
 use Rattle.laws.proofs.Lists.{first_cases, first_passes, first_none, first_stands, first_append}
-use Rattle.rules.specs.Types.{Attribute, Simple, HeadOfQueue, Ordered, Aca, Task, Allegiance, Clear, Faulted, Finish, Completion, Nothing, Done}
+use Rattle.rules.specs.Types.{Attribute, Simple, HeadOfQueue, Ordered, Aca, Task, Allegiance, Finish, Completion, Done}
 use Rattle.rules.specs.Tasks.{nexuses, is_head, is_plain, is_aca, is_enabled, aca_task, enabled_task, enabled_head, enabled_plain, same, whose_turn, turn_of, is_named}
 use Rattle.rules.specs.Rulings.{State, turn}
 use Rattle.rules.specs.Rules.{complete, rule_for, ruling, answer}
@@ -20,7 +20,7 @@ use Rattle.rules.proofs.Settled.{head_task, is_aca_lem, settled_cons, enabled_he
 use Rattle.rules.proofs.WellSays.{says_tested, clear_settled}
 
 -- RULES 2.10
-pub named_in_aca : (f run : ℕ) (ts : List Task) → whose_turn (Faulted f) run ts ≡ first aca_task ts
+pub named_in_aca : (f run : ℕ) (ts : List Task) → whose_turn (Some f) run ts ≡ first aca_task ts
 unfolding whose_turn
 named_in_aca f run ts = refl
 
@@ -75,13 +75,13 @@ else_not_head run u us e b =
 -- whom the turn rule names: the oldest HEAD OF QUEUE task, after fewer than four of them if the oldest task is none; or the oldest, after four
 -- if there is one of them
 named_cases :
-    {P : Type 0} (run : ℕ) (u : Task) (us : List Task) (x : Task) → settled [] (u ∷ us) ≡ true → whose_turn Clear run (u ∷ us) ≡ some x
-    → (first enabled_head (u ∷ us) ≡ some x → (head_task u ≡ false → run < 4) → P)
+    {P : Type 0} (run : ℕ) (u : Task) (us : List Task) (x : Task) → settled [] (u ∷ us) ≡ true → whose_turn None run (u ∷ us) ≡ Some x
+    → (first enabled_head (u ∷ us) ≡ Some x → (head_task u ≡ false → run < 4) → P)
     → (u ≡ x → head_task u ≡ false → (any enabled_head (u ∷ us) ≡ true → 4 ≤ run) → P)
     → P
 unfolding whose_turn
 named_cases {P} run u us x e n f g =
-    cases (λ o. o ≡ some x → P) (any enabled_head (u ∷ us) && (ltb run 4 || not (any enabled_plain (u ∷ us))))
+    cases (λ o. o ≡ Some x → P) (any enabled_head (u ∷ us) && (ltb run 4 || not (any enabled_plain (u ∷ us))))
     (λ b h.
     f h
     (λ nh.
@@ -92,7 +92,7 @@ named_cases {P} run u us x e n f g =
     let q : any enabled_plain (u ∷ us) ≡ true = rw (oldest_plain u us e nh) in
     not_both q (not-true _ (or-true (ltb run 4) (not (any enabled_plain (u ∷ us))) k l))))))
     (λ b h.
-    g (let h' : some u ≡ some x = rw (oldest_enabled u us e) at h in cc) (else_not_head run u us e b)
+    g (let h' : Some u ≡ Some x = rw (oldest_enabled u us e) at h in cc) (else_not_head run u us e b)
     (λ k. ltb-false run 4 (or-false (ltb run 4) _ (and-false (any enabled_head (u ∷ us)) _ b k)).0))
     n
 
@@ -115,11 +115,11 @@ head_there older (u ∷ us) t post e h =
 -- HEAD OF QUEUE one after fewer than four
 pub turn_cases :
     {P : Type 0} (run : ℕ) (pre : List Task) (t : Task) (post : List Task) (x : Task) → settled [] (pre ++ t ∷ post) ≡ true
-    → whose_turn Clear run (pre ++ t ∷ post) ≡ some x
+    → whose_turn None run (pre ++ t ∷ post) ≡ Some x
     → (t ≡ x → P)
-    → (first enabled_head pre ≡ some x → P)
-    → (first other_task pre ≡ some x → is_plain x.attribute ≡ true → (head_task t ≡ true → 4 ≤ run) → P)
-    → (head_task t ≡ false → count head_task pre ≡ 0 → run < 4 → first enabled_head post ≡ some x → P)
+    → (first enabled_head pre ≡ Some x → P)
+    → (first other_task pre ≡ Some x → is_plain x.attribute ≡ true → (head_task t ≡ true → 4 ≤ run) → P)
+    → (head_task t ≡ false → count head_task pre ≡ 0 → run < 4 → first enabled_head post ≡ Some x → P)
     → P
 turn_cases {P} run [] t post x e n hit older plain younger =
     named_cases run t post x e n
@@ -145,11 +145,11 @@ turn_cases {P} run (u ∷ us) t post x e n hit older plain younger =
     (λ z. k (head_there [] (u ∷ us) t post e z)))
 
 -- whoever is named is the first that passes a test, ACA or not
-named_first : (a : Allegiance) (run : ℕ) (ts : List Task) (x : Task) → whose_turn a run ts ≡ some x → (p : Task → Bool) × (first p ts ≡ some x)
+named_first : (a : Allegiance) (run : ℕ) (ts : List Task) (x : Task) → whose_turn a run ts ≡ Some x → (p : Task → Bool) × (first p ts ≡ Some x)
 unfolding whose_turn
-named_first (Faulted f) run ts x e = (aca_task, e)
-named_first Clear run ts x e =
-    cases (λ o. o ≡ some x → (p : Task → Bool) × (first p ts ≡ some x))
+named_first (Some f) run ts x e = (aca_task, e)
+named_first None run ts x e =
+    cases (λ o. o ≡ Some x → (p : Task → Bool) × (first p ts ≡ Some x))
     (any enabled_head ts && (ltb run 4 || not (any enabled_plain ts)))
     (λ b k. (enabled_head, k))
     (λ b k. (enabled_task, k))
@@ -157,25 +157,25 @@ named_first Clear run ts x e =
 
 -- the named task is the one that its nexus and tag find
 pub named_found :
-    (a : Allegiance) (run n g : ℕ) (ts : List Task) (x : Task) → distinct ts ≡ true → whose_turn a run ts ≡ some x → same n g x ≡ true
-    → first (same n g) ts ≡ some x
+    (a : Allegiance) (run n g : ℕ) (ts : List Task) (x : Task) → distinct ts ≡ true → whose_turn a run ts ≡ Some x → same n g x ≡ true
+    → first (same n g) ts ≡ Some x
 named_found a run n g ts x d e h = let o = named_first a run ts x e in distinct_first n g o.0 ts x d o.1 h
 
 -- Over well-formed states ------------------------------------------------------------------------------------------------------------------
 
 -- whoever is named is enabled
 named_enabled :
-    (s : State) (x : Task) → WellFormed s → whose_turn s.header.aca s.header.run s.tasks ≡ some x → enabled_task x ≡ true
+    (s : State) (x : Task) → WellFormed s → whose_turn s.header.aca s.header.run s.tasks ≡ Some x → enabled_task x ≡ true
 unfolding whose_turn
 named_enabled s x w e = go s.header.aca refl e
   where
-    go : (a : Allegiance) → s.header.aca ≡ a → whose_turn a s.header.run s.tasks ≡ some x → enabled_task x ≡ true
-    go (Faulted f) h k =
+    go : (a : Allegiance) → s.header.aca ≡ a → whose_turn a s.header.run s.tasks ≡ Some x → enabled_task x ≡ true
+    go (Some f) h k =
         let o = first_stands aca_task s.tasks x k in
         let a = is_aca_lem x.attribute (first_passes aca_task s.tasks x k) in
         ap is_enabled ((w.in_an_aca f h o.0 x o.1 o.2).aca_enabled a)
-    go Clear h k =
-        cases (λ o. o ≡ some x → enabled_task x ≡ true)
+    go None h k =
+        cases (λ o. o ≡ Some x → enabled_task x ≡ true)
         (any enabled_head s.tasks && (ltb s.header.run 4 || not (any enabled_plain s.tasks)))
         (λ b l. (and-true (head_task x) _ (first_passes enabled_head s.tasks x l)).1)
         (λ b l. first_passes enabled_task s.tasks x l)
@@ -190,28 +190,28 @@ named_completes s n g f w e = go (whose_turn s.header.aca s.header.run s.tasks) 
     go :
         (o : Option Task) → whose_turn s.header.aca s.header.run s.tasks ≡ o → is_named n g (turn_of o) ≡ true
         → answer s (Completion n g f) ≡ Done
-    go none q z = not_both z refl
-    go (some x) q z =
+    go None q z = not_both z refl
+    go (Some x) q z =
         let p = named_first s.header.aca s.header.run s.tasks x q in
         let o = first_stands p.0 s.tasks x p.1 in
         let l : n < nexuses = rw (same_parts n g x z).0 at (w.nexus o.0 x o.1 o.2) in
         let found = named_found s.header.aca s.header.run n g s.tasks x (says_tested s w).apart q z in
         rw (lt-ltb n nexuses l, found, named_enabled s x w q)
 
-nothing_none : (o : Option Task) → turn_of o ≡ Nothing → o ≡ none
-nothing_none none e = refl
-nothing_none (some x) e = absurd (let z : ◌≡◌ {A = ℕ} 0 1 = cc in omega arith)
+nothing_none : (o : Option Task) → turn_of o ≡ None → o ≡ None
+nothing_none None e = refl
+nothing_none (Some x) e = absurd (let z : ◌≡◌ {A = ℕ} 0 1 = cc in omega arith)
 
 -- without ACA a table with tasks names somebody
-pub somebody_named : (s : State) → WellFormed s → s.header.aca ≡ Clear → (s.tasks ≡ [] → ⊥) → turn s ≡ Nothing → ⊥
+pub somebody_named : (s : State) → WellFormed s → s.header.aca ≡ None → (s.tasks ≡ [] → ⊥) → turn s ≡ None → ⊥
 unfolding whose_turn
 somebody_named s w c some_task e =
     go s.tasks refl (rw c at (nothing_none (whose_turn s.header.aca s.header.run s.tasks) e))
   where
-    go : (ts : List Task) → s.tasks ≡ ts → whose_turn Clear s.header.run ts ≡ none → ⊥
+    go : (ts : List Task) → s.tasks ≡ ts → whose_turn None s.header.run ts ≡ None → ⊥
     go [] q z = some_task q
     go (u ∷ us) q z =
-        cases (λ o. o ≡ none → ⊥) (any enabled_head (u ∷ us) && (ltb s.header.run 4 || not (any enabled_plain (u ∷ us))))
+        cases (λ o. o ≡ None → ⊥) (any enabled_head (u ∷ us) && (ltb s.header.run 4 || not (any enabled_plain (u ∷ us))))
         (λ b k. not_both (and-true (any enabled_head (u ∷ us)) _ b).0 (first_none enabled_head (u ∷ us) k))
         (λ b k.
         not_both (oldest_enabled u us (rw q at (clear_settled s w c)))
@@ -220,7 +220,7 @@ somebody_named s w c some_task e =
 
 -- an enabled SIMPLE or ORDERED task means that the oldest one is
 pub plain_oldest :
-    (s : State) (u : Task) (younger : List Task) → WellFormed s → s.header.aca ≡ Clear → Stands s.tasks [] u younger
+    (s : State) (u : Task) (younger : List Task) → WellFormed s → s.header.aca ≡ None → Stands s.tasks [] u younger
     → any enabled_plain s.tasks ≡ true → enabled_plain u ≡ true
 plain_oldest s u younger w c e h =
     let k : settled [] (u ∷ younger) ≡ true = rw e at (clear_settled s w c) in
@@ -228,11 +228,11 @@ plain_oldest s u younger w c e h =
 
 -- RULES 2.12: so the last choice is no HEAD OF QUEUE task while a SIMPLE or ORDERED one is enabled
 pub else_plain :
-    (s : State) (x : Task) → WellFormed s → s.header.aca ≡ Clear → any enabled_plain s.tasks ≡ true
-    → first enabled_task s.tasks ≡ some x → enabled_plain x ≡ true
+    (s : State) (x : Task) → WellFormed s → s.header.aca ≡ None → any enabled_plain s.tasks ≡ true
+    → first enabled_task s.tasks ≡ Some x → enabled_plain x ≡ true
 else_plain s x w c h n = go s.tasks refl n
   where
-    go : (ts : List Task) → s.tasks ≡ ts → first enabled_task ts ≡ some x → enabled_plain x ≡ true
+    go : (ts : List Task) → s.tasks ≡ ts → first enabled_task ts ≡ Some x → enabled_plain x ≡ true
     go [] e k = none_some x k
     go (u ∷ us) e k =
         let p = plain_oldest s u us w c e h in
@@ -241,11 +241,11 @@ else_plain s x w c h n = go s.tasks refl n
 
 -- a HEAD OF QUEUE task that is named is the oldest enabled one of them
 pub named_head_oldest :
-    (s : State) (x : Task) → WellFormed s → s.header.aca ≡ Clear
-    → whose_turn s.header.aca s.header.run s.tasks ≡ some x → head_task x ≡ true → first enabled_head s.tasks ≡ some x
+    (s : State) (x : Task) → WellFormed s → s.header.aca ≡ None
+    → whose_turn s.header.aca s.header.run s.tasks ≡ Some x → head_task x ≡ true → first enabled_head s.tasks ≡ Some x
 unfolding whose_turn
 named_head_oldest s x w c n h = go s.tasks (rw c at n) (clear_settled s w c)
   where
-    go : (ts : List Task) → whose_turn Clear s.header.run ts ≡ some x → settled [] ts ≡ true → first enabled_head ts ≡ some x
+    go : (ts : List Task) → whose_turn None s.header.run ts ≡ Some x → settled [] ts ≡ true → first enabled_head ts ≡ Some x
     go [] k e = none_some x k
     go (u ∷ us) k e = named_cases s.header.run u us x e k (λ a b. a) (λ b y k. not_both h (rw b at y))

@@ -1,5 +1,6 @@
 -- The test of a well-formed state, taken apart (RULES 10), and which changes keep it. FairRulings shows that each event's is one; WellSays carries it to the
 -- statement.
+use Rattle.std.specs.Prelude.{Some, None}
 use Prim.Native.Nat.{ℕ, suc, ◌≤◌, ◌<◌}
 use mathlib.Core.Bool.{true, false, not}
 use mathlib.Core.Path.{◌≡◌, refl, ap, ◌∙◌}
@@ -11,7 +12,7 @@ use borrow.Author.Tests.{eqb-true, not-true, leb-true}
 use Rattle.laws.specs.Lists.{any}
 use Rattle.laws.proofs.Bools.{and-true}
 use Rattle.laws.proofs.Lists.{any_append}
-use Rattle.rules.specs.Types.{Aca, Enabled, Task, Policy, Allegiance, Clear, Faulted, Pending, Fate, Notice, Quiet, Reported, OthersLost, ReportedAndOthersLost, NexusLost, UnitWasReset, HardWasReset, PowerCameOn, Change, Answer, Changes}
+use Rattle.rules.specs.Types.{Aca, Enabled, Task, Policy, Allegiance, Pending, Fate, Notice, Quiet, Reported, OthersLost, ReportedAndOthersLost, NexusLost, UnitWasReset, HardWasReset, PowerCameOn, Change, Answer, Changes}
 use Rattle.rules.specs.Tasks.{places, nexuses, aca_task, same, restate}
 use Rattle.rules.specs.Bits.{no_pending, without, after_power_on, after_hard_reset, after_unit_reset}
 use Rattle.rules.specs.Rulings.{State, fresh, kept, lost, fate_of, newcomers, tell_losers_from, noted, ruled}
@@ -74,9 +75,9 @@ JoiningAca f ts (u ∷ v ∷ vs) = ⊥
 
 -- with no ACA afterwards no ACA task is left; none joins as an ACA begins; an ACA that goes on stays that of its nexus
 abbrev pub Allowed : Allegiance → Allegiance → List Task → List Fate → List Task → Type 0
-Allowed before Clear ts fs js = any aca_task (kept fs ts ++ js) ≡ false
-Allowed Clear (Faulted n) ts fs js = js ≡ []
-Allowed (Faulted f) (Faulted n) ts fs js = (n ≡ f) × JoiningAca f ts js
+Allowed before None ts fs js = any aca_task (kept fs ts ++ js) ≡ false
+Allowed None (Some n) ts fs js = js ≡ []
+Allowed (Some f) (Some n) ts fs js = (n ≡ f) × JoiningAca f ts js
 
 pub record Fair (s : State) (c : Change) : Type 0 where
   pub run : c.header.run ≤ 4
@@ -127,10 +128,10 @@ held_joined f ts fs (u ∷ v ∷ vs) e j = absurd j
 states_after :
     (a b : Allegiance) (ts : List Task) (fs : List Fate) (js : List Task) → states_fit a ts ≡ true → Allowed a b ts fs js
     → states_fit b (restate a b (kept fs ts ++ js)) ≡ true
-states_after a Clear ts fs js e h = settled_settle [] (kept fs ts ++ js) h
-states_after Clear (Faulted n) ts fs js e h =
+states_after a None ts fs js e h = settled_settle [] (kept fs ts ++ js) h
+states_after None (Some n) ts fs js e h =
     rw (h, append-nil (kept fs ts)) (held_blocked n fs [] [] ts (within_refl []) e)
-states_after (Faulted f) (Faulted n) ts fs js e h = rw h.0 (held_joined f ts fs js e h.1)
+states_after (Some f) (Some n) ts fs js e h = rw h.0 (held_joined f ts fs js e h.1)
 
 pub tested_ruled : (s : State) (a : Answer) (c : Change) → Tested s → Fair s c → Tested (ruled s (Changes a c))
 tested_ruled s a c w f =

@@ -1,4 +1,5 @@
 -- The test of a well-formed state holds exactly if the statement does (RULES 10); and every event keeps them.
+use Rattle.std.specs.Prelude.{Some, None}
 use Prim.Native.Nat.{ℕ, ◌<◌}
 use mathlib.Core.Bool.{Bool, true, false, ◌||◌, not}
 use mathlib.Core.Path.{◌≡◌, refl, ap, sym, ◌∙◌}
@@ -9,7 +10,7 @@ use borrow.Author.Tests.{eqb-true, eq-eqb, lt-ltb, ltb-true, leb-false, lt-leb, 
 use Rattle.laws.specs.Lists.{any, is_nil}
 use Rattle.laws.proofs.Bools.{and-true, or-false, not_both, split}
 use Rattle.laws.proofs.Lists.{any_suffix}
-use Rattle.rules.specs.Types.{Attribute, Simple, HeadOfQueue, Ordered, Aca, TaskState, Dormant, Enabled, Blocked, Task, Event, Allegiance, Clear, Faulted}
+use Rattle.rules.specs.Types.{Attribute, Simple, HeadOfQueue, Ordered, Aca, TaskState, Dormant, Enabled, Blocked, Task, Event, Allegiance}
 use Rattle.rules.specs.Tasks.{nexuses, is_aca, is_enabled, same, holds_back, eligible, enabled_if}
 use Rattle.rules.specs.Rulings.{State}
 use Rattle.rules.specs.Rules.{step}
@@ -217,12 +218,12 @@ distinct_places (t ∷ ts) h =
 
 -- The two say the same ---------------------------------------------------------------------------------------------------------------------
 
-fault_says : (a : Allegiance) → fault_fits a ≡ true → (f : ℕ) → a ≡ Faulted f → f < nexuses
+fault_says : (a : Allegiance) → fault_fits a ≡ true → (f : ℕ) → a ≡ Some f → f < nexuses
 fault_says a e f h = ltb-true f nexuses (rw h at e)
 
-fault_fits_lem : (a : Allegiance) → ((f : ℕ) → a ≡ Faulted f → f < nexuses) → fault_fits a ≡ true
-fault_fits_lem Clear h = refl
-fault_fits_lem (Faulted f) h = lt-ltb f nexuses (h f refl)
+fault_fits_lem : (a : Allegiance) → ((f : ℕ) → a ≡ Some f → f < nexuses) → fault_fits a ≡ true
+fault_fits_lem None h = refl
+fault_fits_lem (Some f) h = lt-ltb f nexuses (h f refl)
 
 pub tested_says : (s : State) → Tested s → WellFormed s
 tested_says s w =
@@ -245,14 +246,14 @@ tested_says s w =
 
 states_fit_lem :
     (a : Allegiance) (ts : List Task)
-    → (a ≡ Clear → (older : List Task) (t : Task) (younger : List Task) → Stands ts older t younger → FitsWithoutAca older t)
-    → ((f : ℕ) → a ≡ Faulted f → (older : List Task) (t : Task) (younger : List Task) → Stands ts older t younger
+    → (a ≡ None → (older : List Task) (t : Task) (younger : List Task) → Stands ts older t younger → FitsWithoutAca older t)
+    → ((f : ℕ) → a ≡ Some f → (older : List Task) (t : Task) (younger : List Task) → Stands ts older t younger
     → FitsInAca f older t younger)
     → states_fit a ts ≡ true
-states_fit_lem Clear ts p q =
+states_fit_lem None ts p q =
     settled_places [] ts
     (λ o t y e. rw (eligible_behind o t.attribute) (settled_fits _ o t refl (p refl o t y e)))
-states_fit_lem (Faulted f) ts p q = held_places f [] ts (λ o t y e. held_fits f o t y (q f refl o t y e))
+states_fit_lem (Some f) ts p q = held_places f [] ts (λ o t y e. held_fits f o t y (q f refl o t y e))
 
 pub says_tested : (s : State) → WellFormed s → Tested s
 says_tested s w =
@@ -268,10 +269,10 @@ says_tested s w =
     }
 
 -- without ACA each task of a well-formed state is enabled exactly if it is eligible, else dormant
-pub clear_settled : (s : State) → WellFormed s → s.header.aca ≡ Clear → settled [] s.tasks ≡ true
+pub clear_settled : (s : State) → WellFormed s → s.header.aca ≡ None → settled [] s.tasks ≡ true
 clear_settled s w c = go s.header.aca c (says_tested s w).states
   where
-    go : (a : Allegiance) → a ≡ Clear → states_fit a s.tasks ≡ true → settled [] s.tasks ≡ true
+    go : (a : Allegiance) → a ≡ None → states_fit a s.tasks ≡ true → settled [] s.tasks ≡ true
     go a p z = rw p at z
 
 -- the test holds exactly if the statement does

@@ -12,8 +12,7 @@
 --   completes s n g, ends_others q  := a completion of that nexus and tag is accepted; QERR ends tasks of other nexuses
 --   by_function s n f i, by_happening c i, caused s e i  := what reaches nexus i by a function from nexus n, by a condition, by an event
 --   attention s e i            := what the event e brings to nexus i in the state s
-use Rattle.std.specs.Prelude.{ℕ, Bool, true, false, cond, ◌&&◌, ◌||◌, not, List, [], ◌∷◌, eqb, ltb}
-use Rattle.std.proofs.Math.Option.{Option, none, some}
+use Rattle.std.specs.Prelude.{ℕ, Bool, true, false, cond, ◌&&◌, ◌||◌, not, List, [], ◌∷◌, eqb, ltb, Option, Some, None}
 use Rattle.laws.specs.Lists.{any, first}
 use Rattle.rules.specs.Types.{Task, Entry, Function, Happening, Event, Qerr, Allegiance, Pending, Bit}
 use Rattle.rules.specs.Tasks.{nexuses, aca_task, of_nexus, same, enabled_task}
@@ -61,8 +60,8 @@ bit_after (Reports a) b old = cond (eqb (rank b) (rank a)) false old
 
 -- RULES 5.4 and 5.5: check 2 lets pass an ACA command of the faulted nexus where no ACA task is there, and no other
 abbrev pub passes_aca : Allegiance → Entry → Bool → Bool
-passes_aca Allegiance.Clear c aca = true
-passes_aca (Allegiance.Faulted f) c aca = eqb c.nexus f && asks_aca c.asked && not aca
+passes_aca None c aca = true
+passes_aca (Some f) c aca = eqb c.nexus f && asks_aca c.asked && not aca
 
 -- RULES 11.2: checks 1 and 2 let it pass
 abbrev pub reaches3 : State → Entry → Bool
@@ -70,8 +69,8 @@ reaches3 s c = not (any (same c.nexus c.tag) s.tasks) && passes_aca s.header.aca
 
 -- RULES 11.2: the bit, if one is pending
 abbrev pub reports_bit : Option Bit → Attention
-reports_bit none = Unmoved
-reports_bit (some b) = Reports b
+reports_bit None = Unmoved
+reports_bit (Some b) = Reports b
 
 -- RULES 11.2
 abbrev pub reported_by : State → Entry → Attention

@@ -6,19 +6,19 @@
 --   without b p           := p with that bit cleared
 --   after_power_on, after_hard_reset, after_unit_reset, after_nexus_loss, after_cleared p
 --                         := p after power on, hard reset, logical unit reset, loss of its nexus, and after another initiator cleared its commands
-use Rattle.std.specs.Prelude.{true, false, cond}
-use Rattle.rules.specs.Types.{Pending, Bit, PowerBit, HardBit, UnitBit, LossBit, ClearedBit, Top, NoBit, Highest, Sense}
+use Rattle.std.specs.Prelude.{true, false, cond, Option, Some, None}
+use Rattle.rules.specs.Types.{Pending, Bit, PowerBit, HardBit, UnitBit, LossBit, ClearedBit, Sense}
 
 -- RULES 3.1: none is set
 abbrev pub no_pending : Pending
 no_pending = record { power = false; hard = false; unit = false; loss = false; cleared = false }
 
 -- RULES 3.1: the bit to report
-abbrev pub top : Pending → Top
+abbrev pub top : Pending → Option Bit
 top p =
-    cond p.power (Highest PowerBit)
-    (cond p.hard (Highest HardBit)
-    (cond p.unit (Highest UnitBit) (cond p.loss (Highest LossBit) (cond p.cleared (Highest ClearedBit) NoBit))))
+    cond p.power (Some PowerBit)
+    (cond p.hard (Some HardBit)
+    (cond p.unit (Some UnitBit) (cond p.loss (Some LossBit) (cond p.cleared (Some ClearedBit) None))))
 
 -- RULES 3.2 and 3.3
 abbrev pub sense_for : Bit → Sense

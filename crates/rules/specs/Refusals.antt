@@ -6,9 +6,9 @@
 --   EndsAtEntry s e   := answer 7: the event is such a command
 --   EntryStatus st    := a status with which such a command ends
 --   RejectedBy s e    := answer 8: the event is a function that is rejected
-use Rattle.std.specs.Prelude.{ℕ, ◌≡◌, true, false, ◌&&◌, not, length}
+use Rattle.std.specs.Prelude.{ℕ, ◌≡◌, true, false, ◌&&◌, not, length, Some, None}
 use Rattle.laws.specs.Lists.{any}
-use Rattle.rules.specs.Types.{Aca, Task, Known, NoneOfFour, Entry, Finish, ClearAca, Unknown, Event, Command, Completion, Management, Clear, Faulted, Bit}
+use Rattle.rules.specs.Types.{Aca, Task, Entry, Finish, ClearAca, Unknown, Event, Command, Completion, Management, Bit}
 use Rattle.rules.specs.Tasks.{places, aca_task, same, enabled_task}
 use Rattle.rules.specs.Rulings.{State, pending_of}
 use Rattle.rules.specs.Attentions.{is_set}
@@ -27,14 +27,14 @@ pub data Stopped (s : State) (c : Entry) : Type 0 where
   -- check 1
   overlapped : any (same c.nexus c.tag) s.tasks ≡ true → Stopped s c
   -- check 2: no other nexus goes on, no other attribute, no second ACA task
-  other_nexus : {f : ℕ} → s.header.aca ≡ Faulted f → (c.nexus ≡ f → ⊥) → Stopped s c
-  other_attribute : {f : ℕ} → s.header.aca ≡ Faulted f → (c.asked ≡ Known Aca → ⊥) → Stopped s c
-  aca_task_present : {f : ℕ} → s.header.aca ≡ Faulted f → any aca_task s.tasks ≡ true → Stopped s c
+  other_nexus : {f : ℕ} → s.header.aca ≡ Some f → (c.nexus ≡ f → ⊥) → Stopped s c
+  other_attribute : {f : ℕ} → s.header.aca ≡ Some f → (c.asked ≡ Some Aca → ⊥) → Stopped s c
+  aca_task_present : {f : ℕ} → s.header.aca ≡ Some f → any aca_task s.tasks ≡ true → Stopped s c
   -- check 3
   unit_attention : (b : Bit) → c.exempt ≡ false → is_set (pending_of s c.nexus) b ≡ true → Stopped s c
   -- check 4
-  none_of_four : c.asked ≡ NoneOfFour → Stopped s c
-  aca_without_aca : c.asked ≡ Known Aca → s.header.aca ≡ Clear → Stopped s c
+  none_of_four : c.asked ≡ None → Stopped s c
+  aca_without_aca : c.asked ≡ Some Aca → s.header.aca ≡ None → Stopped s c
   -- check 5
   full : length s.tasks ≡ places → Stopped s c
 
@@ -54,4 +54,4 @@ pub data RejectedBy (s : State) : Event → Type 0 where
   -- RULES 7.10
   unknown_function : {n : ℕ} → RejectedBy s (Management n Unknown)
   -- RULES 7.4
-  not_faulted : {n f : ℕ} → s.header.aca ≡ Faulted f → (n ≡ f → ⊥) → RejectedBy s (Management n ClearAca)
+  not_faulted : {n f : ℕ} → s.header.aca ≡ Some f → (n ≡ f → ⊥) → RejectedBy s (Management n ClearAca)

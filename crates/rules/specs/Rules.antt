@@ -22,11 +22,10 @@
 --   nexus_of e                := the nexus of the event (0 for power on and hard reset)
 --   ruling s e               := the ruling on the event e in the state s
 --   step s e, answer s e, report s e  := the state afterwards, the answer, the ended tasks
-use Rattle.std.specs.Prelude.{ℕ, Bool, true, false, cond, ◌&&◌, not, List, [], ◌∷◌, eqb, ltb, leb}
-use Rattle.std.proofs.Math.Option.{Option, none, some}
+use Rattle.std.specs.Prelude.{ℕ, Bool, true, false, cond, ◌&&◌, not, List, [], ◌∷◌, eqb, ltb, leb, Option, Some, None}
 use Rattle.laws.specs.Lists.{any, first}
-use Rattle.rules.specs.Types.{Attribute, TaskState, Task, Asked, Entry, Finish, Function, Happening, Event, Qerr, Allegiance, Header, Pending}
-use Rattle.rules.specs.Types.{Top, Sense, Ended, Sweep, Notice, Joins, Change, Answer, Ruling}
+use Rattle.rules.specs.Types.{Attribute, TaskState, Task, Entry, Finish, Function, Happening, Event, Qerr, Allegiance, Header, Pending, Bit}
+use Rattle.rules.specs.Types.{Sense, Ended, Sweep, Notice, Change, Answer, Ruling}
 use Rattle.values.specs.Headers.{with_aca, with_run, run_next}
 use Rattle.rules.specs.Tasks.{places, nexuses, is_aca, is_enabled, aca_task, same, is_named}
 use Rattle.rules.specs.Bits.{top, sense_for}
@@ -34,7 +33,7 @@ use Rattle.rules.specs.Rulings.{State, is_clear, pending_of, turn, also_by_qerr,
 
 -- RULES 4.3: tasks end by a sweep, and nothing else changes
 abbrev pub sweeping : Header → Sweep → Change
-sweeping h w = record { sweep = w; joins = Joins.NoTask; header = h; notice = Notice.Quiet }
+sweeping h w = record { sweep = w; joins = None; header = h; notice = Notice.Quiet }
 
 -- RULES 5.1: a sense
 abbrev pub sense : ℕ → ℕ → ℕ → Sense
@@ -51,78 +50,78 @@ tells_others Qerr.EndAll tas = not tas
 tells_others Qerr.EndNexus tas = false
 
 -- RULES 4.7 and 5.8: the bit of check 3, where there is one, and whether others are told
-abbrev pub telling : ℕ → Top → Bool → Notice
-telling n Top.NoBit others = cond others (Notice.OthersLost n) Notice.Quiet
-telling n (Top.Highest b) others = cond others (Notice.ReportedAndOthersLost n b) (Notice.Reported n b)
+abbrev pub telling : ℕ → Option Bit → Bool → Notice
+telling n None others = cond others (Notice.OthersLost n) Notice.Quiet
+telling n (Some b) others = cond others (Notice.ReportedAndOthersLost n b) (Notice.Reported n b)
 
 -- RULES 5.17 and 6.3: of a command and of a task alike
 abbrev pub aca_by_naca : Bool → ℕ → Allegiance → Allegiance
-aca_by_naca naca n a = cond naca (Allegiance.Faulted n) a
+aca_by_naca naca n a = cond naca (Some n) a
 
 -- RULES 5.16 to 5.18 and 5.20: QERR and then NACA, where no ACA is in effect; in an ACA neither. Run stays.
-abbrev pub failing : Allegiance → Header → Entry → Sweep → Top → Change
-failing Allegiance.Clear h c w o =
+abbrev pub failing : Allegiance → Header → Entry → Sweep → Option Bit → Change
+failing None h c w o =
     record {
       sweep = also_by_qerr h.policy.qerr h.policy c.nexus w;
-      joins = Joins.NoTask;
-      header = with_aca h (aca_by_naca c.naca c.nexus Allegiance.Clear);
+      joins = None;
+      header = with_aca h (aca_by_naca c.naca c.nexus None);
       notice = telling c.nexus o (tells_others h.policy.qerr h.policy.tas);
     }
-failing (Allegiance.Faulted f) h c w o =
-    record { sweep = w; joins = Joins.NoTask; header = h; notice = telling c.nexus o false }
+failing (Some f) h c w o =
+    record { sweep = w; joins = None; header = h; notice = telling c.nexus o false }
 
 -- RULES 5.1: how checks 1, 3 and 4 end a command
-abbrev pub check_condition : Header → Entry → Sense → Sweep → Top → Ruling
+abbrev pub check_condition : Header → Entry → Sense → Sweep → Option Bit → Ruling
 check_condition h c se w o = Ruling.Changes (Answer.EndedAtEntry 0x02 se) (failing h.aca h c w o)
 
 -- RULES 5.15: a check stops the command, or lets it go on
 abbrev pub only_if : Bool → Ruling → Option Ruling
-only_if true r = some r
-only_if false r = none
+only_if true r = Some r
+only_if false r = None
 
 -- RULES 5.2 and 5.3: check 1, overlapped command
 abbrev pub check1 : Header → Entry → Bool → Option Ruling
-check1 h c here = only_if here (check_condition h c (sense 0xB 0x4E 0x00) (Sweep.NexusTasks c.nexus) Top.NoBit)
+check1 h c here = only_if here (check_condition h c (sense 0xB 0x4E 0x00) (Sweep.NexusTasks c.nexus) None)
 
 -- RULES 5.4: for attribute ACA
-abbrev pub asks_aca : Asked → Bool
-asks_aca (Asked.Known a) = is_aca a
-asks_aca Asked.NoneOfFour = false
+abbrev pub asks_aca : Option Attribute → Bool
+asks_aca (Some a) = is_aca a
+asks_aca None = false
 
 -- RULES 5.4 to 5.6 and 5.19: check 2, ACA in effect
 abbrev pub check2 : Allegiance → Entry → Bool → Option Ruling
-check2 Allegiance.Clear c aca = none
-check2 (Allegiance.Faulted f) c aca =
+check2 None c aca = None
+check2 (Some f) c aca =
     cond (eqb c.nexus f)
     (only_if (not (asks_aca c.asked && not aca)) (Ruling.Keeps (ended_with 0x30)))
-    (some (Ruling.Keeps (ended_with (cond c.naca 0x30 0x08))))
+    (Some (Ruling.Keeps (ended_with (cond c.naca 0x30 0x08))))
 
 -- RULES 5.7 to 5.9: none where the command is exempt
-abbrev pub bit_to_report : Entry → Pending → Top
-bit_to_report c p = cond c.exempt Top.NoBit (top p)
+abbrev pub bit_to_report : Entry → Pending → Option Bit
+bit_to_report c p = cond c.exempt None (top p)
 
 -- RULES 5.8 to 5.10: check 3, unit attention
-abbrev pub check3 : Header → Entry → Top → Option Ruling
-check3 h c Top.NoBit = none
-check3 h c (Top.Highest b) = some (check_condition h c (sense_for b) Sweep.Nobody (Top.Highest b))
+abbrev pub check3 : Header → Entry → Option Bit → Option Ruling
+check3 h c None = None
+check3 h c (Some b) = Some (check_condition h c (sense_for b) Sweep.Nobody (Some b))
 
 -- RULES 5.11: none of the four, or ACA without an ACA
-abbrev pub bad_attribute : Allegiance → Asked → Bool
-bad_attribute a Asked.NoneOfFour = true
-bad_attribute a (Asked.Known t) = is_aca t && is_clear a
+abbrev pub bad_attribute : Allegiance → Option Attribute → Bool
+bad_attribute a None = true
+bad_attribute a (Some t) = is_aca t && is_clear a
 
 -- RULES 5.11: check 4, attribute
 abbrev pub check4 : Header → Entry → Option Ruling
-check4 h c = only_if (bad_attribute h.aca c.asked) (check_condition h c (sense 0x5 0x49 0x00) Sweep.Nobody Top.NoBit)
+check4 h c = only_if (bad_attribute h.aca c.asked) (check_condition h c (sense 0x5 0x49 0x00) Sweep.Nobody None)
 
 -- RULES 5.12, 5.13 and 5.19: check 5, full
 abbrev pub check5 : Header → Option Ruling
 check5 h = only_if (leb places h.count) (Ruling.Keeps (ended_with 0x28))
 
--- RULES 5.14: check 4 has refused NoneOfFour
-abbrev pub attribute_of : Asked → Attribute
-attribute_of (Asked.Known a) = a
-attribute_of Asked.NoneOfFour = Attribute.Simple
+-- RULES 5.14: check 4 has refused what is none of the four
+abbrev pub attribute_of : Option Attribute → Attribute
+attribute_of (Some a) = a
+attribute_of None = Attribute.Simple
 
 -- RULES 5.14: an ACA task enters enabled; any other enters without an ACA, and its state is settled with the rest
 unfoldable pub new_task : Entry → Task
@@ -130,13 +129,13 @@ new_task c = record { nexus = c.nexus; attribute = attribute_of c.asked; state =
 
 -- RULES 5.14: check 6, accepted
 abbrev pub accepting : Header → Entry → Change
-accepting h c = record { sweep = Sweep.Nobody; joins = Joins.NewTask (new_task c); header = h; notice = Notice.Quiet }
+accepting h c = record { sweep = Sweep.Nobody; joins = Some (new_task c); header = h; notice = Notice.Quiet }
 
 -- RULES 5.15: the first check that rules decides
 abbrev pub first_that_rules : List (Option Ruling) → Ruling → Ruling
 first_that_rules [] r = r
-first_that_rules (none ∷ cs) r = first_that_rules cs r
-first_that_rules (some q ∷ cs) r = q
+first_that_rules (None ∷ cs) r = first_that_rules cs r
+first_that_rules (Some q ∷ cs) r = q
 
 -- RULES 5.15: their order
 abbrev pub checks : Header → Entry → Bool → Bool → Pending → List (Option Ruling)
@@ -157,7 +156,7 @@ enter h c here aca p = by_checks (checks h c here aca p) h c
 
 -- RULES 6.3 and 6.4
 abbrev pub aca_after : Task → Allegiance → Allegiance
-aca_after t a = aca_by_naca t.naca t.nexus (cond (aca_task t) Allegiance.Clear a)
+aca_after t a = aca_by_naca t.naca t.nexus (cond (aca_task t) None a)
 
 -- RULES 6.5, 6.6, 6.9 and 16.2: the status that a completion brings, and that the report of its task has
 abbrev pub status_of : Finish → ℕ
@@ -169,7 +168,7 @@ status_of Finish.ReservationConflict = 0x18
 -- RULES 6.5 and 6.9: the task ends, and run is as ever; no QERR, and the ACA as it was
 abbrev pub ending : Header → Finish → Task → Bool → Change
 ending h f t its_turn =
-    record { sweep = Sweep.OneTask t.nexus t.tag (status_of f); joins = Joins.NoTask; header = run_next h t.attribute its_turn; notice = Notice.Quiet }
+    record { sweep = Sweep.OneTask t.nexus t.tag (status_of f); joins = None; header = run_next h t.attribute its_turn; notice = Notice.Quiet }
 
 -- RULES 6.5 to 6.7 and 6.9: every status
 abbrev pub finish : Header → Finish → Task → Bool → Change
@@ -179,29 +178,29 @@ finish h Finish.ReservationConflict t its_turn = ending h Finish.ReservationConf
 finish h Finish.CheckCondition t its_turn =
     record {
       sweep = Sweep.FailedTask t.nexus t.tag h.policy;
-      joins = Joins.NoTask;
+      joins = None;
       header = with_aca (run_next h t.attribute its_turn) (aca_after t h.aca);
-      notice = telling t.nexus Top.NoBit (tells_others h.policy.qerr h.policy.tas);
+      notice = telling t.nexus None (tells_others h.policy.qerr h.policy.tas);
     }
 
 -- RULES 6.8: answers 5 and 6, else the task ends
 unfoldable pub complete : Header → Option Task → Finish → Bool → Ruling
-complete h none f its_turn = Ruling.Keeps Answer.NoSuchTask
-complete h (some t) f its_turn = cond (is_enabled t.state) (Ruling.Changes Answer.Done (finish h f t its_turn)) (Ruling.Keeps Answer.NotEnabled)
+complete h None f its_turn = Ruling.Keeps Answer.NoSuchTask
+complete h (Some t) f its_turn = cond (is_enabled t.state) (Ruling.Changes Answer.Done (finish h f t its_turn)) (Ruling.Keeps Answer.NotEnabled)
 
 -- RULES 7.1: a reset, with its notice
 abbrev pub resetting : Header → Notice → Change
-resetting h k = record { sweep = Sweep.AllTasks; joins = Joins.NoTask; header = with_aca (with_run h 0) Allegiance.Clear; notice = k }
+resetting h k = record { sweep = Sweep.AllTasks; joins = None; header = with_aca (with_run h 0) None; notice = k }
 
 -- RULES 7.2 to 7.4: CLEAR ACA
 abbrev pub clearing : Header → ℕ → Allegiance → Ruling
-clearing h n Allegiance.Clear = Ruling.Keeps Answer.Done
-clearing h n (Allegiance.Faulted f) = cond (eqb n f) (Ruling.Changes Answer.Done (sweeping (with_aca h Allegiance.Clear) Sweep.AcaTask)) (Ruling.Keeps Answer.Rejected)
+clearing h n None = Ruling.Keeps Answer.Done
+clearing h n (Some f) = cond (eqb n f) (Ruling.Changes Answer.Done (sweeping (with_aca h None) Sweep.AcaTask)) (Ruling.Keeps Answer.Rejected)
 
 -- RULES 7.5: CLEAR TASK SET
 abbrev pub clearing_set : Header → ℕ → Change
 clearing_set h n =
-    record { sweep = Sweep.ClearedBy n h.policy; joins = Joins.NoTask; header = h; notice = telling n Top.NoBit (not h.policy.tas) }
+    record { sweep = Sweep.ClearedBy n h.policy; joins = None; header = h; notice = telling n None (not h.policy.tas) }
 
 -- RULES 7.2 to 7.10: every function
 unfoldable pub manage : Header → ℕ → Function → Ruling
@@ -214,12 +213,12 @@ manage h n Function.Unknown = Ruling.Keeps Answer.Rejected
 
 -- RULES 8.1: an ACA of the nexus that is lost goes
 abbrev pub aca_without : ℕ → Allegiance → Allegiance
-aca_without n Allegiance.Clear = Allegiance.Clear
-aca_without n (Allegiance.Faulted f) = cond (eqb n f) Allegiance.Clear (Allegiance.Faulted f)
+aca_without n None = None
+aca_without n (Some f) = cond (eqb n f) None (Some f)
 
 -- RULES 8.1: nexus loss
 abbrev pub losing : Header → ℕ → Change
-losing h n = record { sweep = Sweep.NexusTasks n; joins = Joins.NoTask; header = with_aca h (aca_without n h.aca); notice = Notice.NexusLost n }
+losing h n = record { sweep = Sweep.NexusTasks n; joins = None; header = with_aca h (aca_without n h.aca); notice = Notice.NexusLost n }
 
 -- RULES 8.1 to 8.3: every condition
 unfoldable pub happen : Header → Happening → Ruling

@@ -16,10 +16,10 @@
 --   noted k ls ps        := the pending bits after the notice k, where the tasks ls ended
 --   answer_of r, ruled s r, report_of s r  := the answer; the state after the ruling; the ended tasks
 --   task_name t, ended_name r, same_name k x  := nexus and tag of a task; of an ended one; two such names are the same
-use Rattle.std.specs.Prelude.{ℕ, suc, Bool, true, false, cond, ◌&&◌, not, List, [], ◌∷◌, ◌++◌, map, eqb, length, get_or, set, replicate}
+use Rattle.std.specs.Prelude.{ℕ, suc, Bool, true, false, cond, ◌&&◌, not, List, [], ◌∷◌, ◌++◌, map, eqb, length, get_or, set, replicate, Option, Some, None, is_none}
 use Rattle.laws.specs.Lists.{any}
 use Rattle.values.specs.Headers.{fresh_header, with_count}
-use Rattle.rules.specs.Types.{Task, Policy, Qerr, Allegiance, Header, Pending, Named, Turn, Fate, Ended, Sweep, Notice, Joins, Change, Answer, Ruling}
+use Rattle.rules.specs.Types.{Task, Policy, Qerr, Allegiance, Header, Pending, Named, Fate, Ended, Sweep, Notice, Change, Answer, Ruling}
 use Rattle.rules.specs.Tasks.{nexuses, aca_task, of_nexus, same, restate, whose_turn, turn_of}
 use Rattle.rules.specs.Bits.{no_pending, without, after_power_on, after_hard_reset, after_unit_reset, after_nexus_loss, after_cleared}
 
@@ -31,15 +31,14 @@ pub record State : Type 0 where
 
 -- RULES 1.10: no ACA is in effect
 abbrev pub is_clear : Allegiance → Bool
-is_clear Allegiance.Clear = true
-is_clear (Allegiance.Faulted n) = false
+is_clear a = is_none a
 
 -- RULES 4.1: the pending bits of one nexus
 abbrev pub pending_of : State → ℕ → Pending
 pending_of s n = get_or s.pending n no_pending
 
 -- RULES 2.10 to 2.12: the turn, of a state
-abbrev pub turn : State → Turn
+abbrev pub turn : State → Option Named
 turn s = turn_of (whose_turn s.header.aca s.header.run s.tasks)
 
 -- RULES 4.2
@@ -53,34 +52,34 @@ fresh p =
 
 -- RULES 4.3: who ends
 abbrev pub end_if : Bool → ℕ → Fate
-end_if true st = Fate.Ends st
-end_if false st = Fate.Stays
+end_if true st = Some st
+end_if false st = None
 
 -- RULES 4.3: those that stay, and those that end, in their order; one for which there is no fate stays
 module _ {A : Type 0} where
   abbrev pub kept : List Fate → List A → List A
   kept [] xs = xs
   kept (f ∷ fs) [] = []
-  kept (Fate.Stays ∷ fs) (x ∷ xs) = x ∷ kept fs xs
-  kept (Fate.Ends st ∷ fs) (x ∷ xs) = kept fs xs
+  kept (None ∷ fs) (x ∷ xs) = x ∷ kept fs xs
+  kept (Some st ∷ fs) (x ∷ xs) = kept fs xs
 
   abbrev pub lost : List Fate → List A → List A
   lost [] xs = []
   lost (f ∷ fs) [] = []
-  lost (Fate.Stays ∷ fs) (x ∷ xs) = lost fs xs
-  lost (Fate.Ends st ∷ fs) (x ∷ xs) = x ∷ lost fs xs
+  lost (None ∷ fs) (x ∷ xs) = lost fs xs
+  lost (Some st ∷ fs) (x ∷ xs) = x ∷ lost fs xs
 
 -- RULES 4.4: FFh, or 40h
 abbrev pub aborted_by : Policy → ℕ → Task → Fate
-aborted_by p n t = Fate.Ends (cond (not (of_nexus n t) && p.tas) 0x40 0xFF)
+aborted_by p n t = Some (cond (not (of_nexus n t) && p.tas) 0x40 0xFF)
 
 -- RULES 4.3, 4.4 and 6.6: one task, by the sweep alone
 abbrev pub fate_alone : Sweep → Task → Fate
-fate_alone Sweep.Nobody t = Fate.Stays
+fate_alone Sweep.Nobody t = None
 fate_alone (Sweep.OneTask n g st) t = end_if (same n g t) st
 fate_alone (Sweep.NexusTasks n) t = end_if (of_nexus n t) 0xFF
 fate_alone Sweep.AcaTask t = end_if (aca_task t) 0xFF
-fate_alone Sweep.AllTasks t = Fate.Ends 0xFF
+fate_alone Sweep.AllTasks t = Some 0xFF
 fate_alone (Sweep.ClearedBy n p) t = aborted_by p n t
 fate_alone (Sweep.FailedTask n g p) t = end_if (same n g t) 0x02
 
@@ -96,8 +95,8 @@ fate_by_qerr q p n t = fate_alone (also_by_qerr q p n Sweep.Nobody) t
 
 -- RULES 6.6: a task that ends by the first is not asked of the second
 abbrev pub or_else : Fate → Fate → Fate
-or_else Fate.Stays other = other
-or_else (Fate.Ends st) other = Fate.Ends st
+or_else None other = other
+or_else (Some st) other = Some st
 
 -- RULES 4.3 to 4.6 and 6.6: one task, by the sweep
 abbrev pub fate_of : Sweep → Task → Fate
@@ -115,9 +114,9 @@ fates_of s (Ruling.Keeps a) = []
 fates_of s (Ruling.Changes a c) = map (fate_of c.sweep) s.tasks
 
 -- RULES 4.8: who joins
-abbrev pub newcomers : Joins → List Task
-newcomers Joins.NoTask = []
-newcomers (Joins.NewTask t) = t ∷ []
+abbrev pub newcomers : Option Task → List Task
+newcomers None = []
+newcomers (Some t) = t ∷ []
 
 abbrev pub joins_of : Ruling → List Task
 joins_of (Ruling.Keeps a) = []
@@ -164,8 +163,8 @@ ruled s (Ruling.Changes a c) =
 abbrev pub ended_from : List Fate → List Task → List Ended
 ended_from [] ts = []
 ended_from (f ∷ fs) [] = []
-ended_from (Fate.Stays ∷ fs) (t ∷ ts) = ended_from fs ts
-ended_from (Fate.Ends st ∷ fs) (t ∷ ts) = record { nexus = t.nexus; status = st; tag = t.tag } ∷ ended_from fs ts
+ended_from (None ∷ fs) (t ∷ ts) = ended_from fs ts
+ended_from (Some st ∷ fs) (t ∷ ts) = record { nexus = t.nexus; status = st; tag = t.tag } ∷ ended_from fs ts
 
 -- RULES 4.9
 abbrev pub report_of : State → Ruling → List Ended

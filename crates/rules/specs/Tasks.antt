@@ -11,12 +11,11 @@
 --   restate a b ts              := the states after an event, by the allegiance before it and after it
 --   whose_turn aca run ts            := the task that the turn rule names, or none
 --   turn_of o, is_named n g turn  := its name; whether that is the name of the task of nexus n and tag g
-use Rattle.std.specs.Prelude.{ℕ, Bool, true, false, cond, ◌||◌, ◌&&◌, not, List, [], ◌∷◌, map, eqb, ltb}
-use Rattle.std.proofs.Math.Option.{Option, none, some}
+use Rattle.std.specs.Prelude.{ℕ, Bool, true, false, cond, ◌||◌, ◌&&◌, not, List, [], ◌∷◌, map, eqb, ltb, Option, Some, None}
 use Rattle.laws.specs.Lists.{any, first}
 pub use Rattle.values.specs.Limits.{places, nexuses}
 use Rattle.values.specs.Headers.{most_run}
-use Rattle.rules.specs.Types.{Attribute, TaskState, Task, Allegiance, Turn}
+use Rattle.rules.specs.Types.{Attribute, TaskState, Task, Allegiance, Named}
 
 -- RULES 1.6: the attributes, by what the rules ask of them
 abbrev pub is_head : Attribute → Bool
@@ -91,9 +90,9 @@ blocked_if_enabled TaskState.Blocked = TaskState.Blocked
 
 -- RULES 2.7 to 2.9: the event ends without an ACA; an ACA begins; an ACA lasts
 abbrev pub restate : Allegiance → Allegiance → List Task → List Task
-restate before Allegiance.Clear ts = settle_from [] ts
-restate Allegiance.Clear (Allegiance.Faulted n) ts = map (λ (t : Task). with_state t (blocked_if_enabled t.state)) ts
-restate (Allegiance.Faulted m) (Allegiance.Faulted n) ts = ts
+restate before None ts = settle_from [] ts
+restate None (Some n) ts = map (λ (t : Task). with_state t (blocked_if_enabled t.state)) ts
+restate (Some m) (Some n) ts = ts
 
 -- RULES 2.11 and 2.12: what the turn rule looks for
 abbrev pub enabled_task : Task → Bool
@@ -107,16 +106,16 @@ enabled_plain t = is_plain t.attribute && is_enabled t.state
 
 -- RULES 2.10 to 2.12: the turn rule
 unfoldable pub whose_turn : Allegiance → ℕ → List Task → Option Task
-whose_turn (Allegiance.Faulted n) run ts = first aca_task ts
-whose_turn Allegiance.Clear run ts =
+whose_turn (Some n) run ts = first aca_task ts
+whose_turn None run ts =
     cond (any enabled_head ts && (ltb run most_run || not (any enabled_plain ts))) (first enabled_head ts) (first enabled_task ts)
 
 -- RULES 2.1 and 2.10 to 2.12: who is named, by nexus and tag
-abbrev pub turn_of : Option Task → Turn
-turn_of none = Turn.Nothing
-turn_of (some t) = Turn.Names (record { nexus = t.nexus; tag = t.tag })
+abbrev pub turn_of : Option Task → Option Named
+turn_of None = None
+turn_of (Some t) = Some (record { nexus = t.nexus; tag = t.tag })
 
 -- RULES 2.1: whether it is the task of nexus n and tag g
-abbrev pub is_named : ℕ → ℕ → Turn → Bool
-is_named n g Turn.Nothing = false
-is_named n g (Turn.Names t) = eqb t.nexus n && eqb t.tag g
+abbrev pub is_named : ℕ → ℕ → Option Named → Bool
+is_named n g None = false
+is_named n g (Some t) = eqb t.nexus n && eqb t.tag g

@@ -6,9 +6,9 @@
 --   FitsInAca f older t younger := what is asked of one in an ACA of nexus f
 --   WellFormed s                := the statement, clause by clause
 --   well_formed s                := the test of it, which code can compute; that the two agree is proved (proofs/WellSays)
-use Rattle.std.specs.Prelude.{ℕ, ◌≤◌, ◌<◌, ◌≡◌, Bool, true, false, ◌||◌, ◌&&◌, not, List, [], ◌∷◌, ◌++◌, map, eqb, ltb, leb, length}
+use Rattle.std.specs.Prelude.{ℕ, ◌≤◌, ◌<◌, ◌≡◌, Bool, true, false, ◌||◌, ◌&&◌, not, List, [], ◌∷◌, ◌++◌, map, eqb, ltb, leb, length, Some, None}
 use Rattle.laws.specs.Lists.{any, is_nil}
-use Rattle.rules.specs.Types.{Attribute, Simple, HeadOfQueue, Ordered, Aca, TaskState, Dormant, Enabled, Blocked, Task, Allegiance, Clear, Faulted}
+use Rattle.rules.specs.Types.{Attribute, Simple, HeadOfQueue, Ordered, Aca, TaskState, Dormant, Enabled, Blocked, Task, Allegiance}
 use Rattle.values.specs.Headers.{most_run}
 use Rattle.rules.specs.Tasks.{places, nexuses, is_aca, same, eligible, enabled_if}
 use Rattle.rules.specs.Rulings.{State}
@@ -42,15 +42,15 @@ pub record FitsInAca (f : ℕ) (older : List Task) (t : Task) (younger : List Ta
 pub record WellFormed (s : State) : Type 0 where
   pub counted : s.header.count ≡ length s.tasks
   pub few : length s.tasks ≤ places
-  pub fault : (f : ℕ) → s.header.aca ≡ Faulted f → f < nexuses
+  pub fault : (f : ℕ) → s.header.aca ≡ Some f → f < nexuses
   pub run : s.header.run ≤ 4
   pub eight : length s.pending ≡ nexuses
   pub nexus : (older : List Task) (t : Task) (younger : List Task) → Stands s.tasks older t younger → t.nexus < nexuses
   pub apart : (older : List Task) (t : Task) (between : List Task) (u : Task) (younger : List Task)
       → Stands s.tasks older t (between ++ (u ∷ younger)) → t.nexus ≡ u.nexus → t.tag ≡ u.tag → ⊥
-  pub without_aca : s.header.aca ≡ Clear → (older : List Task) (t : Task) (younger : List Task)
+  pub without_aca : s.header.aca ≡ None → (older : List Task) (t : Task) (younger : List Task)
       → Stands s.tasks older t younger → FitsWithoutAca older t
-  pub in_an_aca : (f : ℕ) → s.header.aca ≡ Faulted f → (older : List Task) (t : Task) (younger : List Task)
+  pub in_an_aca : (f : ℕ) → s.header.aca ≡ Some f → (older : List Task) (t : Task) (younger : List Task)
       → Stands s.tasks older t younger → FitsInAca f older t younger
 
 -- RULES 1.7. From here on the test.
@@ -91,13 +91,13 @@ held f older (t ∷ ts) =
 
 -- RULES 10.1 to 10.3
 abbrev pub states_fit : Allegiance → List Task → Bool
-states_fit Clear ts = settled [] ts
-states_fit (Faulted f) ts = held f [] ts
+states_fit None ts = settled [] ts
+states_fit (Some f) ts = held f [] ts
 
 -- RULES 10.4: a faulted nexus is 0 to 7
 abbrev pub fault_fits : Allegiance → Bool
-fault_fits Clear = true
-fault_fits (Faulted f) = ltb f nexuses
+fault_fits None = true
+fault_fits (Some f) = ltb f nexuses
 
 -- RULES 10.5
 abbrev pub distinct : List Task → Bool

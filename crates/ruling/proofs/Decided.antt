@@ -1,4 +1,5 @@
 -- What code decides from searches over a good table is the ruling on the state that the table says.
+use Rattle.std.specs.Prelude.{Option, Some, None}
 use Prim.Native.Nat.{ℕ, zero, suc, ◌+◌, ◌*◌, ◌≤◌, ◌<◌}
 use mathlib.Core.Bool.{Bool, true}
 use mathlib.Core.Path.{◌≡◌, refl, ap, sym, ◌∙◌}
@@ -22,18 +23,18 @@ use Rattle.records.specs.Numbers.{pending_from}
 use Rattle.records.specs.Records.{header_from}
 use Rattle.records.specs.Tables.{tasks_from, pendings_from, state_of, good_table}
 use Rattle.records.proofs.Good.{good_tested}
-use Rattle.decide.proofs.Chosen.{turn_found_lem, chosen_named}
+use Rattle.decide.proofs.Chosen.{chosen_named}
 use Rattle.decide.specs.Searches.{searched_turn}
-use Rattle.rules.specs.Types.{Task, Event, Command, Completion, Management, Condition, Allegiance, Clear, Faulted, Header, Pending, Turn}
+use Rattle.rules.specs.Types.{Task, Event, Command, Completion, Management, Condition, Allegiance, Header, Pending, Named}
 use Rattle.ruling.specs.Deciding.{has_aca, pending_at, searched_ruling}
 
 has_aca_is : (a : Allegiance) (ts : List Task) → states_fit a ts ≡ true → has_aca a ts ≡ any aca_task ts
-has_aca_is Clear ts e = sym (settled_ordinary [] ts e)
-has_aca_is (Faulted f) ts e = refl
+has_aca_is None ts e = sym (settled_ordinary [] ts e)
+has_aca_is (Some f) ts e = refl
 
 pub searched_turn_is : (a : Allegiance) (run : ℕ) (ts : List Task) → states_fit a ts ≡ true → searched_turn a run ts ≡ turn_of (whose_turn a run ts)
-searched_turn_is Clear run ts e = chosen_named run ts e
-searched_turn_is (Faulted f) run ts e = rw (named_in_aca f run ts) (turn_found_lem (first aca_task ts))
+searched_turn_is None run ts e = chosen_named run ts e
+searched_turn_is (Some f) run ts e = rw (named_in_aca f run ts)
 
 pendings_at_lem : (k n : ℕ) (l : List ℕ) → n < k → get_or (pendings_from k l) n no_pending ≡ pending_from (get_or l (nexus_size * n + pending_offset) 0)
 unfolding pendings_from
@@ -66,7 +67,7 @@ rule_for_lem b (Command c) w l =
     (at_nexus b c.nexus l)
     ∙ sym (rule_command (state_of b) c)
 rule_for_lem b (Completion n g f) w l =
-    ap (λ (u : Turn). complete (state_of b).header (first (same n g) (state_of b).tasks) f (is_named n g u))
+    ap (λ (u : Option Named). complete (state_of b).header (first (same n g) (state_of b).tasks) f (is_named n g u))
     (searched_turn_is (state_of b).header.aca (state_of b).header.run (state_of b).tasks w.states)
     ∙ sym (rule_completion (state_of b) n g f)
 rule_for_lem b (Management n f) w l = sym (rule_management (state_of b) n f)

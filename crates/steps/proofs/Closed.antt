@@ -1,4 +1,5 @@
 -- Closing up, joining and the header, done to the table of a state.
+use Rattle.std.specs.Prelude.{Some, None}
 use Prim.Native.Nat.{ℕ, zero, suc, ◌+◌, ◌-◌, ◌*◌, ◌≤◌, ◌<◌}
 use mathlib.Core.Path.{◌≡◌, refl, ap, sym, ◌∙◌}
 use mathlib.Core.List.{List, [], ◌∷◌, ◌++◌, map, append_assoc}
@@ -13,7 +14,7 @@ use Rattle.rules.proofs.Fates.{length_split}
 use Rattle.records.specs.Records.{header_bytes, task_bytes, unused_bytes}
 use Rattle.records.specs.Tables.{unused_records, table_with}
 use Rattle.records.proofs.ReadBack.{task_back, length_joined, length_nexuses, table_tasks, table_front, behind_used}
-use Rattle.rules.specs.Types.{Task, Header, Fate, Stays, Ends, Sweep}
+use Rattle.rules.specs.Types.{Task, Header, Fate, Sweep}
 use Rattle.steps.specs.Steps.{ends_fate, gone_by, kept_count, closed_bytes, losers, ends_of}
 use Rattle.steps.proofs.ListedEnds.{joined_append}
 use Rattle.steps.proofs.StepTables.{with_tasks, with_header, tasks_of_table, tasks_changed}
@@ -30,8 +31,8 @@ kept_written w (t ∷ ts) rest =
         (f : Fate) → kept_records task_size (gone_by w) (length ts) (joined task_bytes ts ++ rest) ≡ joined task_bytes (kept (map (fate_of w) ts) ts)
         → keep_unless (ends_fate f) (task_bytes t) (kept_records task_size (gone_by w) (length ts) (joined task_bytes ts ++ rest))
         ≡ joined task_bytes (kept (f ∷ map (fate_of w) ts) (t ∷ ts))
-    go Stays e = ap (λ (z : List ℕ). task_bytes t ++ z) e
-    go (Ends st) e = e
+    go None e = ap (λ (z : List ℕ). task_bytes t ++ z) e
+    go (Some st) e = e
 
 unused_join : (m n : ℕ) → unused_records m ++ unused_records n ≡ unused_records (m + n)
 unfolding unused_records

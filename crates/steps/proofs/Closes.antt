@@ -1,4 +1,5 @@
 -- Closing up: records kept in place, and what is left behind them cleared.
+use Rattle.std.specs.Prelude.{Some, None}
 use Prim.Native.Nat.{ℕ, suc, ◌+◌, ◌-◌, ◌*◌, ◌≤◌, ◌<◌}
 use mathlib.Core.Bool.{Bool, true, false}
 use mathlib.Core.Path.{◌≡◌, refl, sym, ◌∙◌}
@@ -12,7 +13,7 @@ use Rattle.rules.specs.Rulings.{kept, fate_of}
 use Rattle.records.specs.Records.{task_size, task_from, unused_bytes}
 use Rattle.records.specs.Tables.{tasks_at, tasks_from, unused_records}
 use Rattle.steps.proofs.InPlace.{each_new}
-use Rattle.rules.specs.Types.{Task, Fate, Stays, Ends, Sweep}
+use Rattle.rules.specs.Types.{Task, Fate, Sweep}
 use Rattle.steps.specs.Steps.{cleared_record, next_place, vacated_bytes, ends_fate, gone_by, kept_count, closed_bytes}
 use Rattle.steps.specs.Closing.{one_unless, KeptAs}
 
@@ -21,8 +22,8 @@ use Rattle.steps.specs.Closing.{one_unless, KeptAs}
 count_one :
     (f : Fate) (fs : List Fate) (t : Task) (ts : List Task)
     → length (kept (f ∷ fs) (t ∷ ts)) ≡ one_unless (ends_fate f) + length (kept fs ts)
-count_one Stays fs t ts = omega arith
-count_one (Ends st) fs t ts = omega arith
+count_one None fs t ts = omega arith
+count_one (Some st) fs t ts = omega arith
 
 count_next :
     (w : Sweep) (m : ℕ) (b : List ℕ) (at : ℕ)
@@ -64,11 +65,6 @@ next_place_lem false k = omega arith
 one_at_most : (g : Bool) → one_unless g ≤ 1
 one_at_most true = omega arith
 one_at_most false = omega arith
-
-pub keep_begins : (w : Sweep) (n : ℕ) (b : List ℕ) → place n ≤ length b → Keeping w n b b 0 0
-keep_begins w n b h =
-    let e : n - 0 ≡ n = omega arith in
-    record { room = h; long = refl; passed = omega arith; few = omega arith; counted = rw e (omega arith); rest = rw e; beyond = refl }
 
 pub keep_on :
     {w : Sweep} {n : ℕ} {b₀ b : List ℕ} {k i : ℕ} → Keeping w n b₀ b k i → i < n → {b' : List ℕ} {k' : ℕ}

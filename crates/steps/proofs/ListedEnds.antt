@@ -1,17 +1,17 @@
 -- Laws of listing the ended tasks one by one.
+use Rattle.std.specs.Prelude.{Some, None}
 use Prim.Native.Nat.{ℕ, ◌+◌, ◌-◌, ◌*◌, ◌≤◌, ◌<◌}
 use mathlib.Core.Path.{◌≡◌, refl, sym, ap, ◌∙◌}
 use mathlib.Core.List.{List, [], ◌∷◌, ◌++◌, map, append_assoc, append-nil}
 use native.Mathlib.Omega.{arith}
 use lib.ListN.{length, take, drop, replicate, length-append, length-take, length-drop, drop_of_length-le}
-use Rattle.laws.specs.RecordsInLists.{record_at, put_at, joined}
-use Rattle.laws.proofs.RecordsInLists.{put_long, put_taken}
+use Rattle.laws.specs.RecordsInLists.{record_at, joined}
 use Rattle.octets.specs.Sizes.{task_size, ended_size, tasks_at, report_size}
 use Rattle.rules.specs.Tasks.{places}
 use Rattle.rules.specs.Rulings.{fate_of, ended_from}
 use Rattle.records.specs.Records.{task_from, ended_bytes}
 use Rattle.records.specs.Tables.{tasks_from, report_bytes}
-use Rattle.rules.specs.Types.{Task, Ended, Fate, Stays, Ends, Sweep}
+use Rattle.rules.specs.Types.{Task, Ended, Fate, Sweep}
 use Rattle.steps.specs.Steps.{ends_of}
 use Rattle.steps.specs.Reports.{ended_as, Listed, ListedAs}
 use Rattle.records.proofs.TaskRecords.{tasks_next, tasks_end}
@@ -22,32 +22,15 @@ joined_append W (x ∷ xs) ys = rw (append_assoc, joined_append W xs ys)
 
 -- One task ---------------------------------------------------------------------------------------------------------------------------------
 
-module _ (w : Sweep) (m : ℕ) (r b : List ℕ) where
-  pub listed_none : fate_of w (task_from r) ≡ Stays → Listed w m r b b m
-  listed_none e =
-      record { counted = rw e (omega arith); long = refl; listed = rw (e, append-nil) }
-
-  pub listed_one :
-      (st : ℕ) → fate_of w (task_from r) ≡ Ends st → ended_size * m + ended_size ≤ length b
-      → Listed w m r b (put_at ended_size b (ended_size * m) (ended_bytes (record { nexus = (task_from r).nexus; status = st; tag = (task_from r).tag }))) (m + 1)
-  listed_one st e fits =
-      let x : Ended = record { nexus = (task_from r).nexus; status = st; tag = (task_from r).tag } in
-      let q : ended_size * (m + 1) ≡ ended_size * m + ended_size = omega arith in
-      record {
-        counted = rw e;
-        long = put_long ended_size b (ended_bytes x) (ended_size * m) fits refl;
-        listed = rw (e, q) (put_taken ended_size b (ended_bytes x) (ended_size * m) fits refl);
-      }
-
 few_ended : (f : Fate) (x : Task) → length (ended_as f x) ≤ 1
-few_ended Stays x = omega arith
-few_ended (Ends st) x = omega arith
+few_ended None x = omega arith
+few_ended (Some st) x = omega arith
 
 -- All of them ------------------------------------------------------------------------------------------------------------------------------
 
 ended_next : (f : Fate) (x : Task) (fs : List Fate) (xs : List Task) → ended_from (f ∷ fs) (x ∷ xs) ≡ ended_as f x ++ ended_from fs xs
-ended_next Stays x fs xs = refl
-ended_next (Ends st) x fs xs = refl
+ended_next None x fs xs = refl
+ended_next (Some st) x fs xs = refl
 
 abbrev ended_at : Sweep → List ℕ → ℕ → List Ended
 ended_at w t i = let x = task_from (record_at task_size t (tasks_at + task_size * i)) in ended_as (fate_of w x) x
@@ -68,11 +51,6 @@ pub record Listing (w : Sweep) (n : ℕ) (t before after : List ℕ) (m i : ℕ)
   pub few : m ≤ i
   pub counted : m + length (ends_of w (n - i) (drop (tasks_at + task_size * i) t)) ≡ length (ends_of w n (drop tasks_at t))
   pub listed : take (ended_size * m) after ++ joined ended_bytes (ends_of w (n - i) (drop (tasks_at + task_size * i) t)) ≡ joined ended_bytes (ends_of w n (drop tasks_at t))
-
-pub listing_none : (w : Sweep) (n : ℕ) (t b : List ℕ) → Listing w n t b b 0 0
-listing_none w n t b =
-    let e : n - 0 ≡ n = omega arith in
-    record { long = refl; passed = omega arith; few = omega arith; counted = rw e (omega arith); listed = rw e }
 
 pub listing_more :
     (w : Sweep) (n : ℕ) (t b₀ b b₁ : List ℕ) (m i k : ℕ) → i < n → Listing w n t b₀ b m i → Listed w m (record_at task_size t (tasks_at + task_size * i)) b b₁ k
@@ -107,12 +85,12 @@ listing_all w n t b₀ b m i s h g =
 -- the rest, lent as a part, is back as zeros
 pub report_whole :
     (es : List Ended) (b₀ b z : List ℕ) (m : ℕ) → length b₀ ≡ report_size → ListedAs es b₀ b m
-    → z ≡ replicate (length (take (length b - ended_size * m) (drop (ended_size * m) b))) 0
-    → take (ended_size * m) b ++ (z ++ drop (length b - ended_size * m) (drop (ended_size * m) b)) ≡ report_bytes es
+    → z ≡ replicate (length (take (report_size - ended_size * m) (drop (ended_size * m) b))) 0
+    → take (ended_size * m) b ++ (z ++ drop (report_size - ended_size * m) (drop (ended_size * m) b)) ≡ report_bytes es
 unfolding report_bytes
 report_whole es b₀ b z m l g q =
     let all : length b ≡ report_size = g.long ∙ l in
     let rest : length (drop (ended_size * m) b) ≡ report_size - ended_size * m = rw (length-drop, all) in
-    let part : length (take (length b - ended_size * m) (drop (ended_size * m) b)) ≡ report_size - ended_size * m = simp (length-take, rest, all) (omega arith) in
-    let none : drop (length b - ended_size * m) (drop (ended_size * m) b) ≡ [] = drop_of_length-le (drop (ended_size * m) b) {i = length b - ended_size * m} (omega (arith, rest, all)) in
+    let part : length (take (report_size - ended_size * m) (drop (ended_size * m) b)) ≡ report_size - ended_size * m = simp (length-take, rest) (omega arith) in
+    let none : drop (report_size - ended_size * m) (drop (ended_size * m) b) ≡ [] = drop_of_length-le (drop (ended_size * m) b) {i = report_size - ended_size * m} (omega (arith, rest)) in
     rw (none, q, part, append-nil, g.listed, ← g.counted)

@@ -1,4 +1,5 @@
 -- Laws of asking who loses a task.
+use Rattle.std.specs.Prelude.{Some, None}
 use Prim.Native.Nat.{ℕ, ◌+◌, ◌-◌, ◌*◌, ◌≤◌, ◌<◌}
 use mathlib.Core.Path.{◌≡◌, refl, sym, ap, ◌∙◌}
 use mathlib.Core.Bool.{Bool, ◌&&◌, ◌||◌, or_assoc, or-false}
@@ -10,15 +11,15 @@ use Rattle.octets.specs.Sizes.{task_size, tasks_at}
 use Rattle.rules.specs.Rulings.{fate_of, lost}
 use Rattle.records.specs.Records.{task_from}
 use Rattle.records.specs.Tables.{tasks_from}
-use Rattle.rules.specs.Types.{Task, Fate, Stays, Ends, Sweep}
+use Rattle.rules.specs.Types.{Task, Fate, Sweep}
 use Rattle.steps.specs.Steps.{ends_fate, losers}
 use Rattle.records.proofs.TaskRecords.{tasks_next, tasks_end}
 
 lost_next :
     (p : Task → Bool) (f : Fate) (x : Task) (fs : List Fate) (xs : List Task)
     → any p (lost (f ∷ fs) (x ∷ xs)) ≡ (ends_fate f && p x) || any p (lost fs xs)
-lost_next p Stays x fs xs = refl
-lost_next p (Ends st) x fs xs = refl
+lost_next p None x fs xs = refl
+lost_next p (Some st) x fs xs = refl
 
 module _ (p : Task → Bool) (w : Sweep) (n : ℕ) (t : List ℕ) where
   pub losing_next :

@@ -1,5 +1,6 @@
 -- Each step on the bytes, done to the table of a state, gives the table of the state that the rules say, whatever byte 4 of its nexus records has: no step
 -- looks at it.
+use Rattle.std.specs.Prelude.{None}
 use Prim.Native.Nat.{ℕ, ◌+◌, ◌-◌}
 use mathlib.Core.Path.{◌≡◌, refl, ap, ◌∙◌}
 use mathlib.Core.List.{List, [], ◌++◌, map, append_assoc}
@@ -16,7 +17,7 @@ use Rattle.records.proofs.Values.{attribute_back, state_back}
 use Rattle.records.proofs.ReadBack.{tasks_back, table_tasks, table_front}
 use Rattle.decide.specs.OlderTasks.{no_older, behind_by, eligible_by, settled_by}
 use Rattle.decide.proofs.OlderTasks.{settled_walk}
-use Rattle.rules.specs.Types.{Task, Header, Pending, Clear}
+use Rattle.rules.specs.Types.{Task, Header, Pending}
 use Rattle.steps.specs.Steps.{settled_record, behind_record, settled_bytes, blocked_record, next_place, blocked_bytes}
 
 abbrev pub with_tasks : State → List Task → State
@@ -86,7 +87,7 @@ module _ (cs : ℕ → ℕ) (s : State) (eight : length s.pending ≡ nexuses) w
       tasks_changed cs s eight (settle_from [] s.tasks) _
       (ap (λ (l : List ℕ). each_record task_size settled_record behind_record no_older (length s.tasks) l) (table_tasks cs s eight)
       ∙ settled_written s.tasks (unused_records (places - length s.tasks))
-      ∙ same_room s.tasks (settle_from [] s.tasks) (length_restate Clear Clear s.tasks))
+      ∙ same_room s.tasks (settle_from [] s.tasks) (length_restate None None s.tasks))
 
   pub blocked_table : blocked_bytes (length s.tasks) (table_with cs s) ≡ table_with cs (with_tasks s (map blocked_task s.tasks))
   unfolding blocked_bytes

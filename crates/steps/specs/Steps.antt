@@ -12,7 +12,7 @@
 --   noted_one k i lost p  := the pending bits of nexus i after the notice k; lost: it lost a task
 --   noted_bytes k ls b    := the nexus records after the notice k, where the tasks ls ended
 --   ends_of w n l         := the ended records of the first n tasks
-use Rattle.std.specs.Prelude.{ℕ, ◌+◌, ◌-◌, ◌*◌, Bool, true, false, cond, ◌&&◌, not, List, ◌++◌, map, eqb, length, get_or, take, drop, set}
+use Rattle.std.specs.Prelude.{ℕ, ◌+◌, ◌-◌, ◌*◌, Bool, true, false, cond, ◌&&◌, not, List, ◌++◌, map, eqb, length, get_or, take, drop, set, Some, None, is_some}
 use Rattle.laws.specs.Lists.{any}
 use Rattle.laws.specs.RecordsInLists.{each_record, kept_records}
 use Rattle.rules.specs.Tasks.{nexuses, of_nexus, enabled_if, blocked_if_enabled}
@@ -47,9 +47,9 @@ unfoldable pub blocked_bytes : ℕ → List ℕ → List ℕ
 blocked_bytes n b = take tasks_at b ++ each_record task_size blocked_record next_place 0 n (drop tasks_at b)
 
 abbrev pub restated_bytes : Allegiance → Allegiance → ℕ → List ℕ → List ℕ
-restated_bytes before Allegiance.Clear n b = settled_bytes n b
-restated_bytes Allegiance.Clear (Allegiance.Faulted f) n b = blocked_bytes n b
-restated_bytes (Allegiance.Faulted g) (Allegiance.Faulted f) n b = b
+restated_bytes before None n b = settled_bytes n b
+restated_bytes None (Some f) n b = blocked_bytes n b
+restated_bytes (Some g) (Some f) n b = b
 
 -- Closing up -------------------------------------------------------------------------------------------------------------------------------
 
@@ -61,8 +61,7 @@ vacated_bytes i n b =
     take (tasks_at + task_size * i) b ++ each_record task_size cleared_record next_place i n (drop (tasks_at + task_size * i) b)
 
 abbrev pub ends_fate : Fate → Bool
-ends_fate Fate.Stays = false
-ends_fate (Fate.Ends st) = true
+ends_fate f = is_some f
 
 abbrev pub gone_by : Sweep → List ℕ → Bool
 gone_by w r = ends_fate (fate_of w (task_from r))

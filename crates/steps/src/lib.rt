@@ -5,23 +5,18 @@
 ghost use Rattle.std.specs.Prelude.{◌≡◌};
 ghost use Rattle.steps.specs.Steps.{ends_fate, ends_nobody};
 
-use values::{Fate, Sweep};
+use values::Sweep;
 
-pub fn is_end(f: Fate) -> bool
+// Kept (docs/DESIGN-PASS.md, 2): no plainer than its name; the edit nobody_ends stands on it.
+pub fn is_end(f: Option<u8>) -> bool
     ensures { result ≡ ends_fate f }
 {
-    match f {
-        Fate::Stays => false,
-        Fate::Ends(_) => true,
-    }
+    f.is_some()
 }
 
 // Asked first, so that a command's entry passes over no record that it leaves.
 pub fn ends_nobody(w: Sweep) -> bool
     ensures { result ≡ ends_nobody w }
 {
-    match w {
-        Sweep::Nobody => true,
-        _ => false,
-    }
+    w == Sweep::Nobody
 }

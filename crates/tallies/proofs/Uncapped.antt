@@ -1,4 +1,5 @@
 -- RULES 24.11: no counter is capped below 2^64 records.
+use Rattle.std.specs.Prelude.{Option, Some, None}
 use Prim.Native.Nat.{ℕ, zero, suc, ◌+◌, ◌^◌, ◌<◌, ◌≤◌}
 use native.Mathlib.Omega.{arith}
 use mathlib.Core.Path.{◌≡◌, ◌∙◌, ap, sym}
@@ -11,7 +12,7 @@ use borrow.Author.Tests.{ltb-true, ltb-false}
 use Rattle.laws.specs.Lists.{one_if}
 use Rattle.laws.proofs.Bools.{split}
 use Rattle.laws.proofs.Lists.{count_both}
-use Rattle.rules.specs.Types.{Event, Policy, Ruling, Keeps, Changes, Joins, NoTask, NewTask}
+use Rattle.rules.specs.Types.{Event, Policy, Ruling, Keeps, Changes, Task}
 use Rattle.rules.specs.Tasks.{places}
 use Rattle.rules.specs.Rulings.{fresh, newcomers, joins_of}
 use Rattle.rules.specs.Rules.{answer, ruling}
@@ -19,7 +20,6 @@ use Rattle.rules.proofs.WellKept.{Tested, tested_fresh}
 use Rattle.records.specs.Numbers.{policy_from}
 use Rattle.records.specs.Records.{event_size}
 use Rattle.records.specs.Events.{event_of, pieces}
-use Rattle.records.specs.declared.events.EventRead.{EventRead, TheVariants.Readable, TheVariants.Unreadable}
 use Rattle.history.specs.History.{Past, begin, advance, play, after, accepted}
 use Rattle.history.proofs.Advanced.{advance_roll}
 use Rattle.history.proofs.Reached.{tested_advance}
@@ -38,9 +38,9 @@ joins_most : (r : Ruling) → length (joins_of r) ≤ 1
 joins_most (Keeps a) = omega arith
 joins_most (Changes a c) = go c.joins
   where
-    go : (j : Joins) → length (newcomers j) ≤ 1
-    go NoTask = omega arith
-    go (NewTask t) = omega arith
+    go : (j : Option Task) → length (newcomers j) ≤ 1
+    go None = omega arith
+    go (Some t) = omega arith
 
 roll_most : (h : Past) (es : List Event) → length (play h es).roll ≤ length h.roll + length es
 roll_most h [] = omega arith
@@ -61,9 +61,9 @@ events_most zero l = omega arith
 events_most (suc n) l =
     omega (arith, length-append (read_in (event_of (take event_size l))) (events_from n (drop event_size l)), one (event_of (take event_size l)), events_most n (drop event_size l))
   where
-    one : (o : EventRead) → length (read_in o) ≤ 1
-    one Unreadable = omega arith
-    one (Readable e) = omega arith
+    one : (o : Option Event) → length (read_in o) ≤ 1
+    one None = omega arith
+    one (Some e) = omega arith
 
 -- Of tallies -------------------------------------------------------------------------------------------------------------------------------
 

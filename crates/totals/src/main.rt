@@ -1,16 +1,14 @@
 // RULES 24.6 to 24.13: adds up the logs of event records that it is named.
 #![tactic(auto)]
 
-ghost use Rattle.std.specs.Prelude.{◌+◌, ◌≤◌, ◌≡◌, length};
-ghost use Rattle.records.specs.Records.{event_size};
-ghost use Rattle.tallies.specs.Counters.{counters};
 ghost use Rattle.logs.specs.SoFar.{OfSomeLogs};
 
 use blocks::{FIGURES_ROOM, put_all, put_log, put_unreadable};
 use files::tally_file;
 use host::{arg, arg_count, fail};
+use io::large_buffer;
 use std::rt::{Env, Files};
-use tallies::counters::COUNTERS;
+use tallies::counters::{COUNTERS, Counters};
 use tallies::sum::add_log;
 
 // With pages of 4 KiB Linux takes no longer argument.
@@ -18,123 +16,62 @@ const NAME_SIZE: usize = 131072;
 
 const OUT_SIZE: usize = NAME_SIZE + 5 + FIGURES_ROOM;
 
-// Of these arrays a proof needs the length alone, and is slow where it meets their zeros.
-fn name_buffer() -> [u8; NAME_SIZE]
-    ensures { 131072 ≡ length result }
-{
-    [0; NAME_SIZE]
+// The logs together that were read so far, and room for the name of one, a stretch of it and its block.
+#[derive(Drop)]
+struct Totals {
+    all: Counters,
+    name: [u8; NAME_SIZE],
+    stretch: [u8; 65536],
+    out: [u8; OUT_SIZE],
 }
 
-fn out_buffer() -> [u8; OUT_SIZE]
-    ensures { 147461 ≡ length result }
-{
-    [0; OUT_SIZE]
-}
+impl Totals {
+    // Only a log that was read to its end is added. An argument that is missing or too long counts as an empty name, which cannot be opened.
+    fn total<R: Env + Files + Print>(&mut self, rt: &R, i: usize) -> std::io::Result<()>
+        requires { OfSomeLogs self.old.all }
+        ensures { OfSomeLogs self.new.all }
+    {
+        let n = arg(rt, i, &mut self.name).unwrap_or(0);
+        let name = &self.name[..n];
+        let tallied = tally_file(rt, name, &mut self.stretch);
+        let end = match tallied {
+            Ok(counts) => {
+                add_log(&mut self.all, &counts);
+                put_log(&mut self.out, name, &counts)
+            }
+            Err(_) => put_unreadable(&mut self.out, name),
+        };
+        rt.write_all(&self.out[..end])
+    }
 
-// Says whether all of it was written.
-fn write_lines<R: Print + Eprint>(rt: &R, lines: &[u8]) -> bool {
-    match rt.write_all(lines) {
-        Ok(()) => true,
-        Err(e) => {
-            fail(rt, "totals: standard output", e);
-            false
+    // After a write that fails it stops.
+    fn total_logs<R: Env + Files + Print>(&mut self, rt: &R) -> std::io::Result<()>
+        requires { OfSomeLogs self.old.all }
+        ensures { OfSomeLogs self.new.all }
+    {
+        for i in 1..arg_count(rt) {
+            self.total(rt, i)?;
         }
+        let end = put_all(&mut self.out, &self.all);
+        rt.write_all(&self.out[..end])
     }
 }
 
-fn write_log<R: Print + Eprint>(rt: &R, name: &[u8], counts: &[u64], out: &mut [u8]) -> bool
-    requires counts_len { length counts.now ≡ counters }
-    requires name_in_bounds { length name.now + 5 + 16384 ≤ length out.old }
-{
-    let end = put_log(out, name, counts);
-    write_lines(rt, &out[..end])
-}
-
-fn write_unreadable<R: Print + Eprint>(rt: &R, name: &[u8], out: &mut [u8]) -> bool
-    requires { length name.now + 12 ≤ length out.old }
-{
-    let end = put_unreadable(out, name);
-    write_lines(rt, &out[..end])
-}
-
-// Only a log that was read to its end is added.
-fn total<R: Files + Print + Eprint>(
-    rt: &R,
-    name: &[u8],
-    all: &mut [u64],
-    stretch: &mut [u8],
-    out: &mut [u8],
-) -> bool
-    requires all_len { length all.old ≡ counters }
-    requires of_some_logs { OfSomeLogs all.old }
-    requires name_in_bounds { length name.now + 5 + 16384 ≤ length out.old }
-    requires event_size_in_bounds { event_size ≤ length stretch.old }
-    ensures { OfSomeLogs all.new }
-{
-    let mut counts = [0u64; COUNTERS];
-    if !tally_file(rt, name, &mut counts, stretch) {
-        return write_unreadable(rt, name, out);
-    }
-    add_log(all, &counts);
-    write_log(rt, name, &counts, out)
-}
-
-fn total_argument<R: Env + Files + Print + Eprint>(
-    rt: &R,
-    i: usize,
-    all: &mut [u64],
-    name: &mut [u8],
-    stretch: &mut [u8],
-    out: &mut [u8],
-) -> bool
-    requires all_len { length all.old ≡ counters }
-    requires of_some_logs { OfSomeLogs all.old }
-    requires name_in_bounds { length name.old + 5 + 16384 ≤ length out.old }
-    requires event_size_in_bounds { event_size ≤ length stretch.old }
-    ensures { OfSomeLogs all.new }
-{
-    let n = arg(rt, i, name);
-    total(rt, &name[..n], all, stretch, out)
-}
-
-// Says whether all the lines were written; after a write that fails it stops.
-fn total_arguments<R: Env + Files + Print + Eprint>(
-    rt: &R,
-    all: &mut [u64],
-    name: &mut [u8],
-    stretch: &mut [u8],
-    out: &mut [u8],
-) -> bool
-    requires all_len { length all.old ≡ counters }
-    requires of_some_logs { OfSomeLogs all.old }
-    requires name_in_bounds { length name.old + 5 + 16384 ≤ length out.old }
-    requires event_size_in_bounds { event_size ≤ length stretch.old }
-    ensures { OfSomeLogs all.new }
-{
-    for i in 1..arg_count(rt) {
-        if !total_argument(rt, i, all, name, stretch, out) {
-            return false;
-        }
-    }
-    true
-}
-
-fn total_logs<R: Env + Files + Print + Eprint>(rt: &R) {
-    let mut all = [0u64; COUNTERS];
-    let mut name = name_buffer();
-    let mut stretch = io::large_buffer();
-    let mut out = out_buffer();
-    if total_arguments(rt, &mut all, &mut name, &mut stretch, &mut out) {
-        let end = put_all(&mut out, &all);
-        write_lines(rt, &out[..end]);
-    }
+fn total_arguments<R: Env + Files + Print>(rt: &R) -> std::io::Result<()> {
+    let mut totals = Totals {
+        all: [0; COUNTERS],
+        name: [0; NAME_SIZE],
+        stretch: large_buffer(),
+        out: [0; OUT_SIZE],
+    };
+    totals.total_logs(rt)
 }
 
 // The count has the program's own name in it.
 fn main(rt: HostRuntime) {
     if arg_count(&rt) < 2 {
         let _ = eprintln!(rt; "totals: name the logs to add up: totals LOG...");
-    } else {
-        total_logs(&rt);
+    } else if let Err(e) = total_arguments(&rt) {
+        fail(&rt, "totals: standard output", e);
     }
 }

@@ -7,11 +7,11 @@
 --   most_run                          := 4 HEAD OF QUEUE turns in a row while another task is enabled
 --   run_after a run                   := run after a turn of a task with attribute a
 --   run_next h a its_turn              := the header after a completion of a task with attribute a, by whether it was its turn
-use Rattle.std.specs.Prelude.{ℕ, ◌+◌, min, Bool, cond}
+use Rattle.std.specs.Prelude.{ℕ, ◌+◌, min, Bool, cond, None}
 use Rattle.values.specs.declared.Attribute.{Attribute, TheVariants.Simple, TheVariants.HeadOfQueue, TheVariants.Ordered, TheVariants.Aca}
-use Rattle.values.specs.declared.Allegiance.{Allegiance, TheVariants.Clear}
 use Rattle.values.specs.declared.Policy.{Policy}
 use Rattle.values.specs.declared.Header.{Header}
+use Rattle.values.specs.Options.{Allegiance}
 
 -- RULES 1.13: the policy
 abbrev pub lasting : Header → Policy
@@ -23,7 +23,7 @@ lasting_with h n a r = record { policy = h.policy; count = n; aca = a; run = r }
 
 -- RULES 1.14
 abbrev pub fresh_header : Policy → Header
-fresh_header p = record { policy = p; count = 0; aca = Clear; run = 0 }
+fresh_header p = record { policy = p; count = 0; aca = None; run = 0 }
 
 -- RULES 1.10: one part changed, the others as they were
 abbrev pub with_count : Header → ℕ → Header

@@ -1,6 +1,8 @@
-// RULES 1.4: the lower layer's values: tasks, header, events, unit attentions, answers, rulings. No byte of the table is known here. They are declared at the
-// root, under their short paths (docs/SPEED.md).
+// RULES 1.4: the lower layer's values: tasks, header, events, unit attentions, answers, rulings. No record of the table is known here; an enum has its numbers
+// where it is declared. All are declared at the root, under their short paths (docs/SPEED.md).
 #![tactic(auto)]
+
+ghost use Rattle.std.specs.Prelude.{◌≡◌};
 
 mod headers;
 
@@ -23,24 +25,24 @@ pub type Tag = u16;
 pub const TAG_MAX: Tag = u16::MAX;
 
 // RULES 1.6
-#[derive(Clone, Copy)]
+#[derive(Clone, Copy, PartialEq, Eq)]
 pub enum Attribute {
-    Simple,
-    HeadOfQueue,
-    Ordered,
-    Aca,
+    Simple = 0,
+    HeadOfQueue = 1,
+    Ordered = 2,
+    Aca = 4,
 }
 
 // RULES 1.7
-#[derive(Clone, Copy)]
+#[derive(Clone, Copy, PartialEq, Eq)]
 pub enum TaskState {
-    Dormant,
-    Enabled,
-    Blocked,
+    Dormant = 1,
+    Enabled = 2,
+    Blocked = 3,
 }
 
 // RULES 1.8
-#[derive(Clone, Copy)]
+#[derive(Clone, Copy, PartialEq, Eq)]
 pub struct Task {
     pub nexus: u8,
     pub attribute: Attribute,
@@ -52,66 +54,53 @@ pub struct Task {
 // ---- RULES 1.9 and 1.10: the header's state: policy, task count, ACA and run.
 
 // RULES 1.9: QERR 00b, 01b and 11b.
-#[derive(Clone, Copy)]
+#[derive(Clone, Copy, PartialEq, Eq)]
 pub enum Qerr {
-    EndNone,
-    EndAll,
-    EndNexus,
+    EndNone = 0,
+    EndAll = 1,
+    EndNexus = 3,
 }
 
 // RULES 1.9
-#[derive(Clone, Copy)]
+#[derive(Clone, Copy, PartialEq, Eq)]
 pub struct Policy {
     pub qerr: Qerr,
     pub tas: bool,
 }
 
-// RULES 1.10: whether an auto contingent allegiance is in effect, and for which nexus.
-#[derive(Clone, Copy)]
-pub enum Allegiance {
-    Clear,
-    Faulted(u8),
-}
-
-// RULES 1.10
-#[derive(Clone, Copy)]
+// RULES 1.10: `aca` is the nexus that an auto contingent allegiance is for, where one is in effect.
+#[derive(Clone, Copy, PartialEq, Eq)]
 pub struct Header {
     pub policy: Policy,
     pub count: u8,
-    pub aca: Allegiance,
+    pub aca: Option<u8>,
     pub run: u8,
 }
 
 // ---- RULES 1.11: what can happen to the set.
 
-// RULES 16.1: the attribute that a COMMAND asks for: one of the four, or a byte that is none of them.
-#[derive(Clone, Copy)]
-pub enum Asked {
-    Known(Attribute),
-    NoneOfFour,
-}
-
-// RULES 1.2 and 16.1: a COMMAND's fields; of its command block NACA and exempt, and no more.
-#[derive(Clone, Copy)]
+// RULES 1.2 and 16.1: a COMMAND's fields; of its command block NACA and exempt, and no more. It asks for one of the four attributes, or by a byte that is none
+// of them.
+#[derive(Clone, Copy, PartialEq, Eq)]
 pub struct Entry {
     pub nexus: u8,
-    pub asked: Asked,
+    pub asked: Option<Attribute>,
     pub naca: bool,
     pub exempt: bool,
     pub tag: Tag,
 }
 
 // RULES 16.2: the status that a COMPLETION brings.
-#[derive(Clone, Copy)]
+#[derive(Clone, Copy, PartialEq, Eq)]
 pub enum Finish {
-    Good,
-    CheckCondition,
-    Busy,
-    ReservationConflict,
+    Good = 0x00,
+    CheckCondition = 0x02,
+    Busy = 0x08,
+    ReservationConflict = 0x18,
 }
 
 // RULES 16.3: what a MANAGEMENT asks for; ABORT TASK has its own tag.
-#[derive(Clone, Copy)]
+#[derive(Clone, Copy, PartialEq, Eq)]
 pub enum Function {
     AbortTask(Tag),
     AbortTaskSet,
@@ -122,7 +111,7 @@ pub enum Function {
 }
 
 // RULES 16.4: what a CONDITION reports.
-#[derive(Clone, Copy)]
+#[derive(Clone, Copy, PartialEq, Eq)]
 pub enum Happening {
     PowerOn,
     HardReset,
@@ -130,7 +119,7 @@ pub enum Happening {
 }
 
 // RULES 1.11. The first number of COMPLETION and MANAGEMENT is the nexus.
-#[derive(Clone, Copy)]
+#[derive(Clone, Copy, PartialEq, Eq)]
 pub enum Event {
     Command(Entry),
     Completion(u8, Tag, Finish),
@@ -141,7 +130,7 @@ pub enum Event {
 // ---- RULES 1.12: the unit attentions that wait for a nexus.
 
 // RULES 1.12 and 3.1: several can be set at once.
-#[derive(Clone, Copy)]
+#[derive(Clone, Copy, PartialEq, Eq)]
 pub struct Pending {
     pub power: bool,
     pub hard: bool,
@@ -151,7 +140,7 @@ pub struct Pending {
 }
 
 // RULES 3.1: one of the five, highest rank first.
-#[derive(Clone, Copy)]
+#[derive(Clone, Copy, PartialEq, Eq)]
 pub enum Bit {
     PowerBit,
     HardBit,
@@ -160,17 +149,10 @@ pub enum Bit {
     ClearedBit,
 }
 
-// RULES 3.1: the bit of highest rank, where one is set.
-#[derive(Clone, Copy)]
-pub enum Top {
-    NoBit,
-    Highest(Bit),
-}
-
 // ---- RULES 18: what a caller is told.
 
 // RULES 18.2
-#[derive(Clone, Copy)]
+#[derive(Clone, Copy, PartialEq, Eq)]
 pub struct Sense {
     pub key: u8,
     pub code: u8,
@@ -178,7 +160,7 @@ pub struct Sense {
 }
 
 // RULES 18.1: answers 0 to 9, in the order of their numbers. A bad table, report, event or policy is the byte layer's to find.
-#[derive(Clone, Copy)]
+#[derive(Clone, Copy, PartialEq, Eq)]
 pub enum Answer {
     Done,
     BadTable,
@@ -192,17 +174,24 @@ pub enum Answer {
     BadPolicy,
 }
 
+// RULES 4.4, 5.5, 5.11 to 5.13 and 6.6: the statuses that are sent, by their bytes, and what stands where none is.
+// Kept (docs/DESIGN-PASS.md, 1): bytes, as `said`, `fate_of` and `ended_from` have them, and as they are at all three ends.
+pub const CHECK_CONDITION: u8 = 0x02;
+
+pub const BUSY: u8 = 0x08;
+
+pub const TASK_SET_FULL: u8 = 0x28;
+
+pub const ACA_ACTIVE: u8 = 0x30;
+
+pub const TASK_ABORTED: u8 = 0x40;
+
+pub const NO_STATUS: u8 = 0xFF;
+
 // ---- RULES 4 and 9.4: what the rules decide about an event: plain values, which the byte layer carries out.
 
-// RULES 4.3: what an event does to one task that is there.
-#[derive(Clone, Copy)]
-pub enum Fate {
-    Stays,
-    Ends(u8),
-}
-
 // RULES 4.4 and 4.9: a task that ended, with the status to send for it, or FFh for none.
-#[derive(Clone, Copy)]
+#[derive(Clone, Copy, PartialEq, Eq)]
 pub struct Ended {
     pub nexus: u8,
     pub status: u8,
@@ -210,7 +199,7 @@ pub struct Ended {
 }
 
 // RULES 4.3 to 4.6: which tasks an event ends, and with which status.
-#[derive(Clone, Copy)]
+#[derive(Clone, Copy, PartialEq, Eq)]
 pub enum Sweep {
     Nobody,
     // the task of this nexus and tag, with this status
@@ -228,7 +217,7 @@ pub enum Sweep {
 }
 
 // RULES 3.4 to 3.9 and 4.7: what becomes of the pending bits.
-#[derive(Clone, Copy)]
+#[derive(Clone, Copy, PartialEq, Eq)]
 pub enum Notice {
     Quiet,
     // this bit of this nexus was reported
@@ -244,55 +233,52 @@ pub enum Notice {
     PowerCameOn,
 }
 
-// RULES 4.8: the task that joins, if one does.
-#[derive(Clone, Copy)]
-pub enum Joins {
-    NoTask,
-    NewTask(Task),
-}
-
-// RULES 4.8
-#[derive(Clone, Copy)]
+// RULES 4.8: `joins` is the task that joins, if one does.
+#[derive(Clone, Copy, PartialEq, Eq)]
 pub struct Change {
     pub sweep: Sweep,
-    pub joins: Joins,
+    pub joins: Option<Task>,
     pub header: Header,
     pub notice: Notice,
 }
 
 // RULES 9.4: either the set stays as it is, or it changes.
-#[derive(Clone, Copy)]
+#[derive(Clone, Copy, PartialEq, Eq)]
 pub enum Ruling {
     Keeps(Answer),
     Changes(Answer, Change),
 }
 
 // RULES 2.1 and 2.10 to 2.12: whom the turn rule names.
-#[derive(Clone, Copy)]
+#[derive(Clone, Copy, PartialEq, Eq)]
 pub struct Named {
     pub nexus: u8,
     pub tag: Tag,
 }
 
-// RULES 2.10 to 2.12
-#[derive(Clone, Copy)]
-pub enum Turn {
-    Nothing,
-    Names(Named),
+impl From<Task> for Named {
+    ghost from_gives = { λ t r. r ≡ record { nexus = t.nexus; tag = t.tag } };
+
+    fn from(t: Task) -> Named {
+        Named {
+            nexus: t.nexus,
+            tag: t.tag,
+        }
+    }
 }
 
 // ---- RULES 19: what the operations say; the numbers of each answer are in operations/specs/AnswerNumbers.
 
 // RULES 19.2: the answer to an event, and the ended count.
-#[derive(Clone, Copy)]
+#[derive(Clone, Copy, PartialEq, Eq)]
 pub struct Applied {
     pub answer: Answer,
     pub ended: u8,
 }
 
-// RULES 19.4: whose turn it is.
-#[derive(Clone, Copy)]
+// RULES 19.4: whose turn it is, if it is anybody's.
+#[derive(Clone, Copy, PartialEq, Eq)]
 pub struct Naming {
     pub answer: Answer,
-    pub turn: Turn,
+    pub turn: Option<Named>,
 }

@@ -1,11 +1,11 @@
 use Rattle.std.proofs.Common.{◌+◌, ◌*◌, ◌≤◌, length, take}
-use Rattle.lines.specs.Lines.{Written}
+use Rattle.lines.specs.Lines.{Puts}
 use Rattle.blocks.specs.Block.{status_lines}
 use Rattle.blocks.proofs.put_statuses.Given as goal
 
-abbrev pub invariant-loop-s : goal.invariant-loop-s
-invariant-loop-s l =
+abbrev pub invariant-loop-status : goal.invariant-loop-status
+invariant-loop-status l =
     record {
-      written : Written l.fn.out l.at l.out l.end (status_lines l.word 0 (take l.s l.counts));
-      room : l.end ≤ l.at + l.s * (length l.word + 25);
+      puts : Puts l.fn.out l.out (status_lines l.word 0 (take l.status l.counts));
+      room : l.out.at ≤ l.fn.out.at + l.status * (length l.word + 25);
     }

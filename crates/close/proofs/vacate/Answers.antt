@@ -9,7 +9,7 @@ loop-i-init c = record { room = omega arith; long = refl; passed = omega arith; 
 
 pub loop-i-preserved : goal.loop-i-preserved
 unfolding vacated_bytes
-loop-i-preserved c = walk_on c.loop-i.invariant c.loop-i-test.true refl (rw (c.put_tagged.ensures, c.unused_bytes.ensures)) refl
+loop-i-preserved c = walk_on c.loop-i.invariant c.loop-i-test.true refl (rw (c.put_record.ensures, c.unused_bytes.ensures)) refl
 
 pub returns : goal.returns
-returns c = walk_ends c.loop-i.invariant c.loop-i-test.false
+returns c = walk_ends c.loop-i.invariant (omega arith)

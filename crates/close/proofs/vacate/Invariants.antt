@@ -6,6 +6,3 @@ use Rattle.close.proofs.vacate.Given as goal
 
 abbrev pub invariant-loop-i : goal.invariant-loop-i
 invariant-loop-i l = Walking task_size cleared_record next_place tasks_at l.n l.fn.t (vacated_bytes l.from (l.n - l.from) l.fn.t) l.t l.i l.i
-
-abbrev pub decreases-loop-i : goal.decreases-loop-i
-decreases-loop-i l = l.n - l.i

@@ -22,4 +22,4 @@ loop-i-preserved c =
     )
 
 pub returns : goal.returns
-returns c = walk_ends c.loop-i.invariant.0 c.loop-i-test.false
+returns c = walk_ends c.loop-i.invariant.0 (omega arith)

@@ -1,4 +1,4 @@
-use Rattle.std.proofs.Common.{◌≡◌, ◌-◌, drop}
+use Rattle.std.proofs.Common.{◌≡◌, drop}
 use Rattle.octets.specs.Sizes.{nexus_size, nexuses_at, tasks_at}
 use Rattle.rules.specs.Tasks.{nexuses}
 use Rattle.steps.specs.Steps.{losers, noted_record, next_place, noted_bytes}
@@ -12,6 +12,3 @@ invariant-loop-i l =
     (noted_bytes l.k (losers l.w l.n (drop tasks_at l.fn.t)) l.fn.t)
     l.t l.i l.i
     × (drop tasks_at l.t ≡ drop tasks_at l.fn.t)
-
-abbrev pub decreases-loop-i : goal.decreases-loop-i
-decreases-loop-i l = nexuses - l.i

@@ -1,13 +1,10 @@
-use Rattle.std.proofs.Common.{sym, ◌∙◌}
+use Rattle.std.proofs.Common.{sym, ◌∙◌, arith}
 use Rattle.steps.proofs.Nobody.{nobody_listed}
-use Rattle.steps.proofs.ListedEnds.{listing_none, listing_more, listing_all}
+use Rattle.steps.proofs.ListedEnds.{listing_more, listing_all}
 use Rattle.report.proofs.list_ends.Goals as goal
 
 pub returns-then-ends_nobody : goal.returns-then-ends_nobody
 returns-then-ends_nobody c = nobody_listed c.args.w c.args.n _ _ (sym c.ends_nobody.ensures ∙ c.if-ends_nobody.true)
-
-pub loop-i-init : goal.loop-i-init
-loop-i-init c = listing_none c.args.w c.args.n c.args.t.now c.args.report.now
 
 pub loop-i-preserved : goal.loop-i-preserved
 loop-i-preserved c =
@@ -22,4 +19,4 @@ pub returns : goal.returns
 returns c =
     let a = c.args in
     let at = c.loop-i in
-    listing_all a.w a.n a.t.now a.report.now at.report at.m at.i c.requires.1 c.loop-i-test.false at.invariant
+    listing_all a.w a.n a.t.now a.report.now at.report at.m at.i c.requires (omega arith) at.invariant

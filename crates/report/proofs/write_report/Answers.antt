@@ -1,4 +1,4 @@
-use Rattle.std.proofs.Common.{drop}
+use Rattle.std.proofs.Common.{rules, drop}
 use Rattle.octets.specs.Sizes.{tasks_at}
 use Rattle.steps.specs.Steps.{ends_of}
 use Rattle.steps.proofs.ListedEnds.{report_whole}
@@ -10,6 +10,6 @@ returns c =
     let listed = c.list_ends-m in (
       listed.ensures.counted,
       report_whole (ends_of a.w a.n (drop tasks_at a.t.now)) a.report.now _ _ listed.result
-          c.requires.2 listed.ensures c.zero_rest.ensures,
+          (search rules) listed.ensures c.zero_rest.ensures,
       listed.ensures.few,
     )

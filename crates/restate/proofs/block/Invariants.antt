@@ -1,4 +1,3 @@
-use Rattle.std.proofs.Common.{◌-◌}
 use Rattle.octets.specs.Sizes.{task_size, tasks_at}
 use Rattle.steps.specs.Steps.{blocked_record, next_place, blocked_bytes}
 use Rattle.steps.proofs.InPlace.{Walking}
@@ -6,6 +5,3 @@ use Rattle.restate.proofs.block.Given as goal
 
 abbrev pub invariant-loop-i : goal.invariant-loop-i
 invariant-loop-i l = Walking task_size blocked_record next_place tasks_at l.n l.fn.t (blocked_bytes l.n l.fn.t) l.t l.i l.i
-
-abbrev pub decreases-loop-i : goal.decreases-loop-i
-decreases-loop-i l = l.n - l.i

@@ -17,4 +17,4 @@ loop-i-preserved c =
     (rw (c.behind-o.ensures, c.attribute_from-a.ensures, byte))
 
 pub returns : goal.returns
-returns c = walk_ends c.loop-i.invariant c.loop-i-test.false
+returns c = walk_ends c.loop-i.invariant (omega arith)

@@ -1,33 +1,29 @@
-use Rattle.std.proofs.Common.{◌∙◌, arith, rules}
+use Rattle.std.proofs.Common.{arith, rules}
 use Rattle.records.specs.Tables.{Bytes}
-use Rattle.carry.proofs.ChangeTable.{change_long, change_few, change_room, header_kept, changed}
+use Rattle.carry.proofs.ChangeTable.{change_few, change_room, header_kept, changed}
 use Rattle.carry.proofs.change.change.Goals as goal
 
 pub write_report-ended-requires : goal.write_report-ended-requires
-write_report-ended-requires c = (change_long c.requires, change_few c.requires, c.requires.report)
+write_report-ended-requires c = change_few c.requires
 
 pub note_if-requires : goal.note_if-requires
-note_if-requires c = (change_long c.requires, change_few c.requires)
+note_if-requires c = change_few c.requires
 
 pub close_up-stay-requires : goal.close_up-stay-requires
-close_up-stay-requires c = (c.note_if.auto.t ∙ change_long c.requires, change_few c.requires)
+close_up-stay-requires c = change_few c.requires
 
 pub join-m-requires : goal.join-m-requires
 join-m-requires c =
-    let bytes : Bytes c.args.t.now = λ i. search rules in (
-      c.close_up-stay.auto.t ∙ c.note_if.auto.t ∙ change_long c.requires,
-      change_room c.requires bytes c.note_if.new.t c.note_if.ensures c.close_up-stay.result c.close_up-stay.ensures.0,
-    )
+    let bytes : Bytes c.args.t.now = λ i. search rules in
+    change_room c.requires bytes c.note_if.new.t c.note_if.ensures c.close_up-stay.result c.close_up-stay.ensures.0
 
 pub restate-requires : goal.restate-requires
 restate-requires c =
-    let bytes : Bytes c.args.t.now = λ i. search rules in (
-      c.join-m.auto.t ∙ c.close_up-stay.auto.t ∙ c.note_if.auto.t ∙ change_long c.requires,
-      omega (
-        arith,
-        c.join-m.ensures.0,
-        change_room c.requires bytes c.note_if.new.t c.note_if.ensures c.close_up-stay.result c.close_up-stay.ensures.0,
-      ),
+    let bytes : Bytes c.args.t.now = λ i. search rules in
+    omega (
+      arith,
+      c.join-m.ensures.0,
+      change_room c.requires bytes c.note_if.new.t c.note_if.ensures c.close_up-stay.result c.close_up-stay.ensures.0,
     )
 
 pub overflow_cast-m : goal.overflow_cast-m
@@ -50,7 +46,7 @@ put_header-requires c =
     c.join-m.ensures.0
     c.join-m.ensures.1
     c.restate.ensures
-    (c.restate.auto.t ∙ c.join-m.auto.t ∙ close.auto.t ∙ c.note_if.auto.t ∙ change_long c.requires))
+    (search rules))
 
 pub returns : goal.returns
 returns c =

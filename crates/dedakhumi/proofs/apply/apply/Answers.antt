@@ -33,14 +33,13 @@ returns-then-nexus_of-ge-NEXUS_BOUND c =
     let refuse = c.refuse-then-nexus_of-ge-NEXUS_BOUND in
     let good = sym c.table_fits.ensures ∙ c.if-not-table_fits.false in
     refused_as refuse.result a.t.now a.report.now
-    (no_nexus a.t.now a.report.now a.event.now good c.if-report-ne-REPORT_SIZE.false c.in-Readable.e (sym c.event_of.ensures ∙ c.in-Readable.is)
+    (no_nexus a.t.now a.report.now a.event.now good c.if-report-ne-REPORT_SIZE.false c.in-Some.e (sym c.event_of.ensures ∙ c.in-Some.is)
     (rw c.nexus_of.ensures at c.if-nexus_of-ge-NEXUS_BOUND.true))
     refuse.ensures
 
 pub on_event-requires : goal.on_event-requires
 on_event-requires c = (
   sym c.table_fits.ensures ∙ c.if-not-table_fits.false,
-  c.if-report-ne-REPORT_SIZE.false,
   omega (arith, c.nexus_of.ensures, c.if-nexus_of-ge-NEXUS_BOUND.false),
 )
 
@@ -48,5 +47,5 @@ pub returns : goal.returns
 returns c =
     let a = c.args in
     let good = sym c.table_fits.ensures ∙ c.if-not-table_fits.false in
-    rw (ruled_on a.t.now a.report.now a.event.now good c.if-report-ne-REPORT_SIZE.false c.in-Readable.e (sym c.event_of.ensures ∙ c.in-Readable.is))
-    c.on_event.ensures
+    rw (ruled_on a.t.now a.report.now a.event.now good c.if-report-ne-REPORT_SIZE.false c.in-Some.e (sym c.event_of.ensures ∙ c.in-Some.is))
+    (rw c.in-Some-as_mut_array.ensures.cases.same at c.on_event.ensures)

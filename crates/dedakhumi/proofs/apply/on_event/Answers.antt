@@ -12,29 +12,32 @@ use Rattle.dedakhumi.proofs.apply.on_event.Goals as goal
 pub header_in-h-requires : goal.header_in-h-requires
 header_in-h-requires c = omega (arith, (table_tested c.args.t.now c.requires.0).long)
 
+pub unreachable-requires : goal.unreachable-requires
+unreachable-requires c = c.in_default.ensures.cases (table_tested c.args.t.now c.requires.0).long
+
 pub rule-r-requires : goal.rule-r-requires
 rule-r-requires c =
     let t = c.args.t.now in (
-      (table_tested t c.requires.0).long,
       rw (header_read t c.header_in-h.result c.header_in-h.ensures) (good_few t c.requires.0),
-      c.requires.2,
+      c.requires.1,
     )
 
 pub carry_out-requires : goal.carry_out-requires
 carry_out-requires c =
     let t = c.args.t.now in
     let e = c.args.e in
+    let same = c.in-Some.ensures.cases.same in
     let h = header_read t c.header_in-h.result c.header_in-h.ensures in (
       c.requires.0,
-      c.requires.1,
       h,
-      rw (c.rule-r.ensures, ruling_read t c.header_in-h.result c.requires.0 h e c.requires.2)
+      rw (c.rule-r.ensures, same, ruling_read t c.header_in-h.result c.requires.0 h e c.requires.1)
           (from_tested (ruled (state_of t) (ruling (state_of t) e)) (tested_ruling (state_of t) e (good_tested t c.requires.0))),
-      rw (c.rule-r.ensures, ruling_read t c.header_in-h.result c.requires.0 h e c.requires.2) (what_lasts (state_of t) e),
+      rw (c.rule-r.ensures, same, ruling_read t c.header_in-h.result c.requires.0 h e c.requires.1) (what_lasts (state_of t) e),
     )
 
 pub returns : goal.returns
 returns c =
     let t = c.args.t.now in
+    let same = c.in-Some.ensures.cases.same in
     let h = header_read t c.header_in-h.result c.header_in-h.ensures in
-    rw (c.rule-r.ensures, ruling_read t c.header_in-h.result c.requires.0 h c.args.e c.requires.2) at c.carry_out.ensures
+    rw (c.rule-r.ensures, same, ruling_read t c.header_in-h.result c.requires.0 h c.args.e c.requires.1) at c.carry_out.ensures

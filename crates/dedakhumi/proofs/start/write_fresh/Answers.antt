@@ -1,3 +1,4 @@
+use Rattle.std.proofs.Common.{rules}
 use Rattle.records.specs.Numbers.{policy_from}
 use Rattle.dedakhumi.proofs.FreshTable.{fresh_bytes}
 use Rattle.dedakhumi.proofs.start.write_fresh.Goals as goal
@@ -7,9 +8,9 @@ returns c =
     rw (
       c.vacate.ensures,
       c.write_nexuses.ensures,
-      c.put_untagged.ensures,
+      c.put_record.ensures,
       c.header_bytes.ensures,
       c.fresh-h.ensures,
       c.policy_from.ensures,
     )
-    (fresh_bytes (policy_from c.args.policy) c.args.t.now c.requires)
+    (fresh_bytes (policy_from c.args.policy) c.args.t.now (search rules))

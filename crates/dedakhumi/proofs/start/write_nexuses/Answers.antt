@@ -11,8 +11,8 @@ pub loop-i-preserved : goal.loop-i-preserved
 unfolding fresh_nexuses
 loop-i-preserved c =
     walk_on c.loop-i.invariant c.loop-i-test.true refl
-    (rw (c.put_untagged.ensures, c.nexus_bytes.ensures, c.after_power_on.ensures))
+    (rw (c.put_record.ensures, c.nexus_bytes.ensures, c.after_power_on.ensures))
     refl
 
 pub returns : goal.returns
-returns c = walk_ends c.loop-i.invariant c.loop-i-test.false
+returns c = walk_ends c.loop-i.invariant (omega arith)

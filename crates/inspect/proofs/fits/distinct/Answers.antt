@@ -1,7 +1,7 @@
 use Rattle.std.proofs.Common.{◌≡◌, ◌∙◌, arith}
 use lib.Seq.{slice_empty}
 use Rattle.inspect.specs.TableTest.{keys_apart}
-use Rattle.inspect.proofs.Keys.{slice_next, slice_past, four}
+use Rattle.inspect.proofs.Keys.{slice_next, slice_past, four_held}
 use Rattle.inspect.proofs.fits.distinct.Goals as goal
 
 pub loop-j-init : goal.loop-j-init
@@ -10,7 +10,7 @@ loop-j-init c =
     let h = c.pairs-test.true in
     record {
       here = h;
-      low = c.requires.2.low c.pairs.i h;
+      low = c.requires.1.low c.pairs.i h;
       clear = c.pairs.invariant.clear;
       rest = rw (slice_next c.args.keys.now c.pairs.i c.args.n h (omega arith)) at c.pairs.invariant.rest;
     }
@@ -24,11 +24,7 @@ loop-j-preserved c =
       low = turn.invariant.low;
       clear = turn.invariant.clear;
       rest =
-          rw (
-            four c.args.keys.now c.args.n _ c.requires.1 c.requires.0 c.requires.2 turn.invariant.low turn.j c.loop-j-test.true,
-            ← c.is_among.ensures,
-            c.if-is_among.false,
-          )
+          rw (four_held c.args.keys.now c.args.n _ _ (omega arith) c.requires.0 c.requires.1 turn.invariant.low turn.j c.loop-j-test.true c.contains.ensures.value, c.if-contains.false)
           at turn.invariant.rest;
     }
 
@@ -49,13 +45,9 @@ returns-after-pairs c =
     let all : turn.i ≡ c.args.n = omega arith in
     turn.invariant.clear ∙ (rw (all, slice_empty) at turn.invariant.rest)
 
-pub returns-then-is_among : goal.returns-then-is_among
+pub returns-then-contains : goal.returns-then-contains
 unfolding keys_apart
-returns-then-is_among c =
+returns-then-contains c =
     let turn = c.loop-j in
-    (rw (
-      four c.args.keys.now c.args.n _ c.requires.1 c.requires.0 c.requires.2 turn.invariant.low turn.j c.loop-j-test.true,
-      ← c.is_among.ensures,
-      c.if-is_among.true,
-    )
+    (rw (four_held c.args.keys.now c.args.n _ _ (omega arith) c.requires.0 c.requires.1 turn.invariant.low turn.j c.loop-j-test.true c.contains.ensures.value, c.if-contains.true)
     at turn.invariant.rest)

@@ -25,6 +25,3 @@ decreases-loop-j l = l.n - l.j
 
 abbrev pub invariant-pairs : goal.invariant-pairs
 invariant-pairs l = Outer l.keys l.n l.clear l.i
-
-abbrev pub decreases-pairs : goal.decreases-pairs
-decreases-pairs l = l.n - l.i

@@ -1,5 +1,4 @@
-use Rattle.std.proofs.Common.{drop, arith}
-use lib.ListN.{length-append, length-drop}
+use Rattle.std.proofs.Common.{rules, drop, arith}
 use lib.Seq.{take_at}
 use Rattle.octets.specs.Sizes.{tasks_at}
 use Rattle.records.proofs.Good.{bytes_drop}
@@ -11,8 +10,7 @@ pub distinct-requires : goal.distinct-requires
 distinct-requires c =
     let l = drop tasks_at c.args.t.now in (
       omega arith,
-      rw c.note_keys.ensures (simp (length-append, keys_long, length-drop) (omega arith)),
-      noted_spared c.args.n l (bytes_drop c.args.t.now tasks_at (λ i. (c.type_inv.t i).fits)) _ c.note_keys.ensures,
+      noted_spared c.args.n l (bytes_drop c.args.t.now tasks_at (λ i. search rules)) _ c.note_keys.ensures,
     )
 
 pub returns : goal.returns

@@ -1,4 +1,4 @@
-use Rattle.std.proofs.Common.{◌≡◌, ◌≤◌, ◌-◌, ◌+◌, ◌*◌, drop}
+use Rattle.std.proofs.Common.{◌≡◌, ◌-◌, ◌+◌, ◌*◌, drop}
 use Rattle.octets.specs.Sizes.{nexus_size, nexuses_at}
 use Rattle.rules.specs.Tasks.{nexuses}
 use Rattle.records.specs.Tables.{nexuses_fit}
@@ -6,8 +6,4 @@ use Rattle.inspect.proofs.fits.nexuses_fit.Given as goal
 
 abbrev pub invariant-loop-n : goal.invariant-loop-n
 invariant-loop-n l =
-    (l.n ≤ nexuses)
-    × (nexuses_fit l.n (nexuses - l.n) (drop (nexuses_at + nexus_size * l.n) l.t) ≡ nexuses_fit 0 nexuses (drop nexuses_at l.t))
-
-abbrev pub decreases-loop-n : goal.decreases-loop-n
-decreases-loop-n l = nexuses - l.n
+    nexuses_fit l.n (nexuses - l.n) (drop (nexuses_at + nexus_size * l.n) l.t) ≡ nexuses_fit 0 nexuses (drop nexuses_at l.t)

@@ -11,7 +11,7 @@ unfolding keys_from
 loop-i-init c =
     let n = c.args.n in
     let all : n - 0 ≡ n = omega arith in
-    record { long = c.requires.2; passed = omega arith; rest = rw all }
+    record { long = omega arith; passed = omega arith; rest = rw all }
 
 pub loop-i-preserved : goal.loop-i-preserved
 unfolding keys_from

@@ -11,6 +11,3 @@ pub record Noted (t : List ℕ) (n : ℕ) (keys₀ keys : List ℕ) (i : ℕ) : 
 
 abbrev pub invariant-loop-i : goal.invariant-loop-i
 invariant-loop-i l = Noted l.t l.n l.fn.keys l.keys l.i
-
-abbrev pub decreases-loop-i : goal.decreases-loop-i
-decreases-loop-i l = l.n - l.i

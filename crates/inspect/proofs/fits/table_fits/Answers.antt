@@ -11,19 +11,20 @@ returns-then-t-ne-TABLE_SIZE c =
 
 pub returns-then-not-header_fits : goal.returns-then-not-header_fits
 returns-then-not-header_fits c =
-    by_tests c.args.t.now c.load_untagged-r.result c.load_untagged-r.ensures (λ i. (c.type_inv.t i).fits) false
+    let same = c.in-Some.ensures.cases.same in
+    by_tests c.args.t.now c.load_record-r.result (rw same at c.load_record-r.ensures) (λ i. (c.type_inv.t i).fits) false
     (rw (eq-eqb _ _ c.if-t-ne-TABLE_SIZE.false, ← c.header_fits.ensures, c.if-not-header_fits.true))
 
 pub records_fit-requires : goal.records_fit-requires
-records_fit-requires c = (
-  c.if-t-ne-TABLE_SIZE.false,
-  rw (c.header_in-h.ensures, ← c.load_untagged-r.ensures)
-      (count_fits c.args.t.now c.load_untagged-r.result c.load_untagged-r.ensures c.if-t-ne-TABLE_SIZE.false
-      (sym c.header_fits.ensures ∙ c.if-not-header_fits.false)),
-)
+records_fit-requires c =
+    let same = c.in-Some.ensures.cases.same in
+    rw (c.header_in-h.ensures, ← c.load_record-r.ensures)
+    (count_fits c.args.t.now c.load_record-r.result (rw same at c.load_record-r.ensures) c.if-t-ne-TABLE_SIZE.false
+    (sym c.header_fits.ensures ∙ c.if-not-header_fits.false))
 
 pub returns : goal.returns
 returns c =
-    by_tests c.args.t.now c.load_untagged-r.result c.load_untagged-r.ensures (λ i. (c.type_inv.t i).fits) _
+    let same = c.in-Some.ensures.cases.same in
+    by_tests c.args.t.now c.load_record-r.result (rw same at c.load_record-r.ensures) (λ i. (c.type_inv.t i).fits) _
     (rw (eq-eqb _ _ c.if-t-ne-TABLE_SIZE.false, ← c.header_fits.ensures, c.if-not-header_fits.false)
-    (rw (c.header_in-h.ensures, ← c.load_untagged-r.ensures) at c.records_fit.ensures))
+    (rw (c.header_in-h.ensures, ← c.load_record-r.ensures, same) at c.records_fit.ensures))

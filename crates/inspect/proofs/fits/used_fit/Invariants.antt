@@ -1,4 +1,4 @@
-use Rattle.std.proofs.Common.{◌≡◌, ◌≤◌, ◌-◌, ◌+◌, ◌*◌, drop}
+use Rattle.std.proofs.Common.{◌≡◌, ◌-◌, ◌+◌, ◌*◌, drop}
 use Rattle.octets.specs.Sizes.{task_size, tasks_at}
 use Rattle.decide.specs.OlderTasks.{no_older}
 use Rattle.inspect.specs.TableTest.{used_fit}
@@ -6,8 +6,4 @@ use Rattle.inspect.proofs.fits.used_fit.Given as goal
 
 abbrev pub invariant-loop-i : goal.invariant-loop-i
 invariant-loop-i l =
-    (l.i ≤ l.n)
-    × (used_fit (l.n - l.i) l.aca l.o (drop (tasks_at + task_size * l.i) l.t) ≡ used_fit l.n l.aca no_older (drop tasks_at l.t))
-
-abbrev pub decreases-loop-i : goal.decreases-loop-i
-decreases-loop-i l = l.n - l.i
+    used_fit (l.n - l.i) l.aca l.o (drop (tasks_at + task_size * l.i) l.t) ≡ used_fit l.n l.aca no_older (drop tasks_at l.t)

@@ -1,14 +1,16 @@
-use Rattle.std.proofs.Common.{◌≡◌, ◌≤◌, ◌-◌, ◌+◌, ◌*◌, ℕ, List, length, drop}
+use Rattle.std.proofs.Common.{◌≡◌, ◌-◌, ◌/◌, length, drop}
+use Rattle.std.specs.Slice.Iter.{chunks_exact_rest, chunks_exact_size}
 use Rattle.records.specs.Records.{event_size}
-use Rattle.logs.specs.Walking.{standing, walk_over}
+use Rattle.logs.specs.Walking.{walk_over}
 use Rattle.logs.proofs.play.play_from.Given as goal
 
-pub record Turn (stretch : List ℕ) (at : ℕ) (table₀ report₀ counts₀ table report counts : List ℕ) (n i : ℕ) : Type 0 where
-  pub walked : walk_over (n - i) (standing table report counts) (drop (at + event_size * i) stretch) ≡ walk_over n (standing table₀ report₀ counts₀) (drop at stretch)
-  pub table_long : length table ≡ length table₀
-  pub report_long : length report ≡ length report₀
-  pub counts_long : length counts ≡ length counts₀
-  pub passed : i ≤ n
-
-abbrev pub invariant-loop-i : goal.invariant-loop-i
-invariant-loop-i l = Turn l.stretch l.at l.fn.table l.fn.report l.fn.counts l.table l.report l.counts l.n l.i
+abbrev pub invariant-loop-event : goal.invariant-loop-event
+invariant-loop-event l =
+    record {
+      can : (goal.iterator-loop-event).can_next l.event-iterator;
+      finite : (goal.iterator-loop-event).is_finite l.event-iterator;
+      size : chunks_exact_size l.event-iterator ≡ event_size;
+      walked :
+          walk_over (length (chunks_exact_rest l.event-iterator) / event_size) l.standing (chunks_exact_rest l.event-iterator)
+          ≡ walk_over ((length l.stretch - l.at) / event_size) l.fn.standing (drop l.at l.stretch);
+    }

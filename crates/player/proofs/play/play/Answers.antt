@@ -1,32 +1,37 @@
-use Rattle.std.proofs.Common.{arith, ◌*◌, ◌-◌, ◌<◌, ◌≡◌, length, take, ap, sym, ◌∙◌, append-nil}
-use Rattle.io.proofs.Counting.{prefix_len_of_le}
-use Rattle.records.specs.Records.{event_size}
-use Rattle.records.specs.Events.{pieces}
-use Rattle.player.specs.Played.{Run, played}
-use Rattle.player.proofs.Pieces.{piece, onward}
+use Rattle.std.proofs.Common.{◌∙◌, arith, rules}
+use Rattle.player.proofs.Pieces.{begun, one_less, onward, ended}
 use Rattle.player.proofs.play.play.Goals as goal
 
-pub loop-i-preserved : goal.loop-i-preserved
-loop-i-preserved c =
-    let es = c.args.events.now in
-    let i = c.loop-i.i in
-    let inside : i < pieces (length es) = omega arith in
+-- so that a piece left out is refused for what is then played, and not because a search gave up
+pub loop-event-init : goal.loop-event-init
+loop-event-init c =
     record {
-      played_on =
-          onward es c.loop-i.table c.loop-i.report (pieces (length es)) i inside (piece es (event_size * i) c.least-to.result (omega arith) c.least-to.ensures)
-          c.play_one-at.ensures.text c.play_one-at.ensures.table c.play_one-at.ensures.report c.loop-i.invariant.played_on;
-      room = omega (arith, c.play_one-at.ensures.short);
+      can = search rules;
+      finite = tt;
+      size = search rules;
+      same = search rules;
+      long = search rules;
+      room = search rules;
+      played_on = begun c.args.events.now _ _ (search rules);
+    }
+
+pub loop-event-preserved : goal.loop-event-preserved
+loop-event-preserved c =
+    let loop = c.loop-event.invariant in
+    let step = c.in-Some.ensures.steps in
+    let one = c.play_one.ensures.one in
+    let size = rw loop.size at step.1.1 in
+    record {
+      can = search rules;
+      finite = tt;
+      size = step.0 ∙ loop.size;
+      same = c.play_one.ensures.same ∙ loop.same;
+      long = one.text.long ∙ loop.long;
+      room = omega (arith, one.short, loop.room, one_less _ _ _ step.1.0 size step.1.2);
+      played_on = onward _ _ _ step.1.0 size step.1.2 _ _ one loop.played_on;
     }
 
 pub returns : goal.returns
-unfolding played
 returns c =
-    let n = pieces (length c.args.events.now) in
-    let e : n - c.loop-i.i ≡ 0 = omega arith in
-    let all = rw e at c.loop-i.invariant.played_on in
-    record {
-      lines = sym (append-nil (take c.loop-i.at c.loop-i.out)) ∙ ap (λ (p : Run). p.lines) all;
-      table = ap (λ (p : Run). p.table) all;
-      report = ap (λ (p : Run). p.report) all;
-      within = prefix_len_of_le c.loop-i.at c.loop-i.out (omega arith);
-    }
+    let loop = c.loop-event.invariant in
+    ended _ loop.played_on c.in-None.ensures.steps.1.0 (omega (arith, loop.long, loop.room)) (search rules)

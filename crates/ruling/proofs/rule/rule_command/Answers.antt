@@ -1,4 +1,4 @@
-use Rattle.std.proofs.Common.{drop}
+use Rattle.std.proofs.Common.{rules, drop}
 use Rattle.octets.specs.Sizes.{tasks_at}
 use Rattle.rules.specs.Tasks.{same}
 use Rattle.records.specs.Tables.{tasks_from}
@@ -13,8 +13,8 @@ returns c =
     rw (
       c.enter.ensures,
       c.pending_at.ensures,
-      c.is_here-here.ensures,
-      c.search.ensures,
+      c.is_some-here.ensures,
+      c.search.ensures (same a.c.nexus a.c.tag) (record { answers = λ t b e. search rules }),
       c.has_aca-aca_here.ensures,
       here_any (same a.c.nexus a.c.tag) (tasks_from a.h.count (drop tasks_at a.t.now)),
     )

@@ -1,9 +1,10 @@
-use Rattle.std.proofs.Common.{◌≡◌, ◌≤◌, ◌++◌, length, take, drop}
+use Rattle.std.proofs.Common.{◌≡◌, ◌++◌, length, take, drop}
 use Rattle.tallies.specs.Counters.{counters, add_counters}
 use Rattle.tallies.proofs.sum.add_log.Given as goal
 
 abbrev pub invariant-loop-k : goal.invariant-loop-k
 invariant-loop-k l =
-    (take l.k l.all ++ add_counters l.k (drop l.k l.all) (drop l.k l.one) ≡ add_counters 0 l.fn.all l.one)
-    × (length l.all ≡ length l.fn.all)
-    × (l.k ≤ counters)
+    record {
+      added : take l.k l.all ++ add_counters l.k (drop l.k l.all) (drop l.k l.one) ≡ add_counters 0 l.fn.all l.one;
+      long : length l.all ≡ counters;
+    }
