@@ -72,10 +72,9 @@
    - The archive is for x86-64 with System V calls. It allocates nothing, keeps nothing between calls, calls nothing but memset, and never
      blocks. It uses the red zone and SSE registers, which a kernel and an interrupt handler must not.
    - Stack: DEDAKHUMI_APPLY_STACK, DEDAKHUMI_NAME_STACK and DEDAKHUMI_START_STACK bytes, return address included; memset's own come to that.
-   - Instructions of dedakhumi_apply: in steady work some 960 an event at 3 tasks, 2,310 at 16 and 10,150 at 64. Of the kinds of event that a
-     search found to take most (0.4.0) the largest takes some 24,400: a CHECK CONDITION of the ACA task under QERR 01b on a lent table with
-     63 other tasks; and 23,300 where a start leads there: that of a task under QERR 01b with 64 tasks. Both end all tasks, so that no two
-     such events follow each other. */
+   - Instructions of dedakhumi_apply: in steady work some 960 an event at 3 tasks, 2,310 at 16 and 10,150 at 64. The most that a search
+     found (0.6.0) is some 24,400: a CHECK CONDITION of the ACA task under QERR 01b on a lent table with 63 other tasks; and 23,300 where a
+     start leads there: that of a task under QERR 01b with 64 tasks. Both end all tasks, so that no two such events follow each other. */
 #ifndef DEDAKHUMI_H
 #define DEDAKHUMI_H
 
@@ -111,7 +110,7 @@ typedef uint16_t dedakhumi_tag;
 
 /* Bytes of stack that a call takes at the most. */
 #define DEDAKHUMI_APPLY_STACK 544
-#define DEDAKHUMI_NAME_STACK 384
+#define DEDAKHUMI_NAME_STACK 368
 #define DEDAKHUMI_START_STACK 8
 
 /* Lengths in bytes, and numbers of records (RULES 13). */

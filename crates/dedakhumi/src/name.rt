@@ -14,10 +14,7 @@ fn turn_of_table(t: &[u8]) -> Option<Named>
     ensures { result ≡ turn (state_of t.now) }
 {
     let h = header_in(t);
-    let Some(table) = t.as_array() else {
-        unreachable!()
-    };
-    turn_in(table, h.count as usize, h.aca, h.run)
+    turn_in(t, h.count as usize, h.aca, h.run)
 }
 
 // Whatever the bytes and however many.

@@ -1,4 +1,4 @@
-use Rattle.std.proofs.Common.{rules, ◌≡◌}
+use Rattle.std.proofs.Common.{rules}
 use Rattle.rules.specs.Tasks.{aca_task, enabled_head, enabled_plain}
 use Rattle.find.proofs.turn_in.Goals as goal
 
