@@ -2,7 +2,7 @@
 ghost use Rattle.std.specs.Prelude.{◌≡◌, ◌+◌, ◌≤◌, true, length};
 ghost use Rattle.rules.specs.Well.{fault_fits};
 ghost use Rattle.laws.specs.RecordsInLists.{record_at};
-ghost use Rattle.records.specs.Numbers.{aca_number, aca_from, qerr_from, policy_number, policy_fits, policy_from};
+ghost use Rattle.records.specs.Numbers.{aca_number, aca_from, qerr_number, qerr_from, policy_number, policy_fits, policy_from};
 ghost use Rattle.records.specs.Records.{head_size, header_bytes, header_from, header_fits};
 
 use octets::sizes::{ACA_OFFSET, COUNT_OFFSET, HEAD_SIZE, POLICY_OFFSET, RUN_OFFSET};
@@ -35,10 +35,20 @@ pub fn policy_from(n: u8) -> Policy
     }
 }
 
+fn qerr_number(q: Qerr) -> u8
+    ensures { (result ≡ qerr_number q) × (result ≤ 3) }
+{
+    match q {
+        Qerr::EndNone => 0,
+        Qerr::EndAll => 1,
+        Qerr::EndNexus => 3,
+    }
+}
+
 pub fn policy_number(p: Policy) -> u8
     ensures { result ≡ policy_number p }
 {
-    p.qerr as u8 + flag_byte(p.tas) * 4
+    qerr_number(p.qerr) + flag_byte(p.tas) * 4
 }
 
 fn aca_from(n: u8) -> Option<u8>

@@ -1,6 +1,6 @@
 // Task records, used and unused, and ended ones.
 ghost use Rattle.std.specs.Prelude.{◌≡◌, eqb};
-ghost use Rattle.records.specs.Numbers.{attribute_fits, attribute_from, state_number, state_fits, state_from};
+ghost use Rattle.records.specs.Numbers.{attribute_number, attribute_fits, attribute_from, state_number, state_fits, state_from};
 ghost use Rattle.records.specs.Records.{task_bytes, task_from, task_fits, unused_fits, unused_bytes, ended_bytes};
 
 use octets::sizes::{
@@ -10,7 +10,7 @@ use octets::{flag_byte, is_mark, tag_in, tagged_bytes, word_of};
 use values::{Attribute, NEXUS_BOUND, Tag, Task, TaskState};
 
 // Kept, with what decodes in header.rt, nexus.rt and events.rt (docs/DESIGN-PASS.md, 4): no plainer. A table is tested before it is decoded, so that a TryFrom's
-// error would have no reader, and an impl for a type of `values` can stand in `values` alone, which knows no record (RULES 1.4, 25.1).
+// error would have no reader, and an impl for a type of `values` can stand in `values` alone, which knows no byte of the table (RULES 1.4, 25.1).
 pub fn attribute_fits(n: u8) -> bool
     ensures { result ≡ attribute_fits n }
 {
@@ -25,6 +25,18 @@ pub fn attribute_from(n: u8) -> Attribute
         1 => Attribute::HeadOfQueue,
         2 => Attribute::Ordered,
         _ => Attribute::Aca,
+    }
+}
+
+// No discriminants (docs/DESIGN-PASS.md, 4), here, at a state and at a policy: what may not change; `values` knows no byte of the table (RULES 1.4).
+fn attribute_number(a: Attribute) -> u8
+    ensures { result ≡ attribute_number a }
+{
+    match a {
+        Attribute::Simple => 0,
+        Attribute::HeadOfQueue => 1,
+        Attribute::Ordered => 2,
+        Attribute::Aca => 4,
     }
 }
 
@@ -47,7 +59,11 @@ pub fn state_from(n: u8) -> TaskState
 pub fn state_number(s: TaskState) -> u8
     ensures { result ≡ state_number s }
 {
-    s as u8
+    match s {
+        TaskState::Dormant => 1,
+        TaskState::Enabled => 2,
+        TaskState::Blocked => 3,
+    }
 }
 
 pub fn task_fits(r: [u8; TASK_SIZE]) -> bool
@@ -78,8 +94,8 @@ pub fn task_bytes(t: Task) -> [u8; TASK_SIZE]
     tagged_bytes(
         0x54,
         t.nexus,
-        t.attribute as u8,
-        t.state as u8,
+        attribute_number(t.attribute),
+        state_number(t.state),
         flag_byte(t.naca),
         t.tag,
     )

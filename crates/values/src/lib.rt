@@ -1,5 +1,5 @@
-// RULES 1.4: the lower layer's values: tasks, header, events, unit attentions, answers, rulings. No record of the table is known here; an enum has its numbers
-// where it is declared. All are declared at the root, under their short paths (docs/SPEED.md).
+// RULES 1.4: the lower layer's values: tasks, header, events, unit attentions, answers, rulings. No byte of the table is known here. They are declared at the
+// root, under their short paths (docs/SPEED.md).
 #![tactic(auto)]
 
 ghost use Rattle.std.specs.Prelude.{◌≡◌};
@@ -27,18 +27,18 @@ pub const TAG_MAX: Tag = u16::MAX;
 // RULES 1.6
 #[derive(Clone, Copy, PartialEq, Eq)]
 pub enum Attribute {
-    Simple = 0,
-    HeadOfQueue = 1,
-    Ordered = 2,
-    Aca = 4,
+    Simple,
+    HeadOfQueue,
+    Ordered,
+    Aca,
 }
 
 // RULES 1.7
 #[derive(Clone, Copy, PartialEq, Eq)]
 pub enum TaskState {
-    Dormant = 1,
-    Enabled = 2,
-    Blocked = 3,
+    Dormant,
+    Enabled,
+    Blocked,
 }
 
 // RULES 1.8
@@ -56,9 +56,9 @@ pub struct Task {
 // RULES 1.9: QERR 00b, 01b and 11b.
 #[derive(Clone, Copy, PartialEq, Eq)]
 pub enum Qerr {
-    EndNone = 0,
-    EndAll = 1,
-    EndNexus = 3,
+    EndNone,
+    EndAll,
+    EndNexus,
 }
 
 // RULES 1.9
