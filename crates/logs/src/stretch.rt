@@ -1,6 +1,6 @@
 // RULES 24.12: a log cut in stretches: what is left of one is carried to the front of the next.
 ghost use Rattle.std.specs.Prelude.{◌≤◌, length};
-ghost use Rattle.logs.specs.Walking.{TakenAs};
+ghost use Rattle.logs.specs.Walking.{Ready, TakenAs};
 
 use crate::play::Standing;
 use crate::reader::play_stretch;
@@ -9,7 +9,8 @@ use crate::reader::play_stretch;
 // Plays the whole records among the first `end` bytes of the buffer, and says how many bytes behind them it carried to its front.
 pub fn take_in(standing: &mut Standing, buffer: &mut [u8], end: usize) -> usize
     requires { end ≤ length buffer.old }
-    ensures { TakenAs buffer.old end standing.old standing.new buffer.new result }
+    ensures ready { Ready buffer.old end standing.old }
+    ensures taken { TakenAs buffer.old end standing.old standing.new buffer.new result }
 {
     let at = play_stretch(&buffer[..end], standing);
     buffer.copy_within(at..end, 0);
