@@ -1,4 +1,4 @@
-use Rattle.std.proofs.Common.{arith, ◌≡◌, ◌-◌, ◌+◌, ◌*◌, true, false}
+use Rattle.std.proofs.Common.{arith, ap, ◌≡◌, ◌∙◌, ◌-◌, ◌+◌, ◌*◌, true, false}
 use Rattle.laws.specs.RecordsInLists.{record_at}
 use Rattle.octets.specs.Sizes.{task_size, tasks_at}
 use Rattle.records.specs.Tables.{tasks_from}
@@ -8,7 +8,8 @@ use Rattle.find.proofs.search.Goals as goal
 pub returns-then-wants : goal.returns-then-wants
 unfolding tasks_from
 returns-then-wants g c p says =
-    let next : c.get_tagged.result ≡ record_at task_size c.args.t.now (tasks_at + task_size * c.loop-i.i) = c.get_tagged.ensures in
+    let next : c.get_tagged.result ≡ record_at task_size c.args.t.now (tasks_at + task_size * c.loop-i.i) =
+    c.get_tagged.ensures ∙ ap (record_at task_size c.args.t.now) (omega (arith, c.loop-i-test.true)) in
     (rw (
       tasks_next c.args.n c.loop-i.i c.args.t.now c.loop-i-test.true,
       ← next,
@@ -20,7 +21,8 @@ returns-then-wants g c p says =
 pub loop-i-preserved : goal.loop-i-preserved
 unfolding tasks_from
 loop-i-preserved g c p says =
-    let next : c.get_tagged.result ≡ record_at task_size c.args.t.now (tasks_at + task_size * c.loop-i.i) = c.get_tagged.ensures in
+    let next : c.get_tagged.result ≡ record_at task_size c.args.t.now (tasks_at + task_size * c.loop-i.i) =
+    c.get_tagged.ensures ∙ ap (record_at task_size c.args.t.now) (omega (arith, c.loop-i-test.true)) in
     (rw (
       tasks_next c.args.n c.loop-i.i c.args.t.now c.loop-i-test.true,
       ← next,

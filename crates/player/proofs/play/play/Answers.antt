@@ -1,5 +1,6 @@
 use Rattle.std.proofs.Common.{◌∙◌, ap, arith, rules}
 use Rattle.std.specs.Slice.Iter.{chunks_rest}
+use Rattle.std.proofs.Math.Seq.{take-length}
 use Rattle.player.proofs.Pieces.{begun, one_less, onward, ended}
 use Rattle.player.proofs.play.play.Goals as goal
 
@@ -13,7 +14,7 @@ loop-event-init c =
       same = search rules;
       long = search rules;
       room = search rules;
-      played_on = begun c.args.events.now _ _ (ap chunks_rest c.into_iter-event-iterator.ensures.into_iter_gives ∙ c.chunks-event-items.ensures.rest);
+      played_on = begun c.args.events.now _ _ (ap chunks_rest c.into_iter-event-iterator.ensures.into_iter_gives ∙ c.chunks-event-items.ensures.rest ∙ search (rules, take-length));
     }
 
 pub loop-event-preserved : goal.loop-event-preserved
