@@ -7,6 +7,7 @@ use crate::reader::play_stretch;
 
 // Kept (docs/DESIGN-PASS.md, 6): no plainer; what is left goes to the front of the whole buffer, of which `end` bytes are filled.
 // Plays the whole records among the first `end` bytes of the buffer, and says how many bytes behind them it carried to its front.
+// `ready` is what `goes_on` asks beside `taken`, so that nobody has to believe it (docs/TRUST.md).
 pub fn take_in(standing: &mut Standing, buffer: &mut [u8], end: usize) -> usize
     requires { end ≤ length buffer.old }
     ensures ready { Ready buffer.old end standing.old }

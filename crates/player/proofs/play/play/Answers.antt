@@ -1,12 +1,14 @@
-use Rattle.std.proofs.Common.{◌∙◌, ap, arith, rules}
+use Rattle.std.proofs.Common.{◌≡◌, ◌∙◌, ap, arith, rules}
 use Rattle.std.specs.Slice.Iter.{chunks_rest}
 use Rattle.std.proofs.Math.Seq.{take-length}
 use Rattle.player.proofs.Pieces.{begun, one_less, onward, ended}
 use Rattle.player.proofs.play.play.Goals as goal
 
--- so that a piece left out is refused for what is then played, and not because a search gave up
+-- what the pieces are of is written out, so that a piece left out is refused for that: a part of the events is not the events
 pub loop-event-init : goal.loop-event-init
 loop-event-init c =
+    let of_all : chunks_rest c.into_iter-event-iterator.result ≡ c.args.events.now =
+    ap chunks_rest c.into_iter-event-iterator.ensures.into_iter_gives ∙ c.chunks-event-items.ensures.rest ∙ search (rules, take-length) in
     record {
       can = search rules;
       finite = tt;
@@ -14,7 +16,7 @@ loop-event-init c =
       same = search rules;
       long = search rules;
       room = search rules;
-      played_on = begun c.args.events.now _ _ (ap chunks_rest c.into_iter-event-iterator.ensures.into_iter_gives ∙ c.chunks-event-items.ensures.rest ∙ search (rules, take-length));
+      played_on = begun c.args.events.now _ _ of_all;
     }
 
 pub loop-event-preserved : goal.loop-event-preserved
